@@ -2,10 +2,11 @@
 
 _kagutin_options() {
     case $1 in
-        inspect) echo "--json --groups --homes --start" ;;
-        wear) echo "--interval --now --done --since --csv --html --date --all --writer" ;;
-        bands) echo "--writer" ;;
-        alarms) echo "--csv" ;;
+        inspect) echo "--json --groups --homes --start --base" ;;
+        wear) echo "--interval --now --done --since --csv --html --date --all --writer --base" ;;
+        bands) echo "--writer --base" ;;
+        alarms) echo "--csv --base" ;;
+        rights) echo "--base" ;;
         gauges) echo "--tolerance --brief --plot" ;;
         inflow) echo "--area --pumped" ;;
         convert) echo "--to --base --size" ;;

@@ -2996,7 +2996,7 @@ static inline bool log_scan__commits__is_linked(uint64_t end, uint64_t base, uin
 }
 
 /* Takes a closing entry, complete or not, at a position: it is committed, or the first that fails. */
-static inline struct log_scan__commits__Progress log_scan__commits__judge(struct log_scan__commits__Progress progress,
+static inline struct log_scan__commits__Progress log_scan__commits__decide(struct log_scan__commits__Progress progress,
         uint64_t base, uint64_t position, uint64_t link, bool complete)
 {
     uint64_t t6, t7;
@@ -3032,7 +3032,7 @@ static inline struct log_scan__commits__Progress log_gather__walking__join_closi
     if (32768u <= t11) {
         return (struct log_scan__commits__Progress){.end = progress.end, .number = progress.number, .failed = 2u};
     }
-    t12 = log_scan__commits__judge(progress, base, position, link, ((uint64_t)t11 + 1u) == count);
+    t12 = log_scan__commits__decide(progress, base, position, link, ((uint64_t)t11 + 1u) == count);
     if (t12.failed != 0u) {
         return t12;
     }
@@ -3219,7 +3219,7 @@ static inline struct log_scan__commits__Progress log_scan__commits__visit_closin
     t24 = index - t7;
     t25 = (uint16_t)((uint32_t)counts.ptr[(size_t)t24] + 1u);
     counts.ptr[(size_t)t24] = t25;
-    return log_scan__commits__judge(progress, base, base + index, (word >> 27u) & 8191u, (uint64_t)t25 == t8);
+    return log_scan__commits__decide(progress, base, base + index, (word >> 27u) & 8191u, (uint64_t)t25 == t8);
 }
 
 /* Takes what the word of a tag says at index `index` of the log. */
@@ -5026,7 +5026,7 @@ static inline uint64_t call_trim__moves__kept_last(uint64_t last, uint64_t start
 }
 
 /* Puts the new start, the fenced position and the last closing entry into the strip. */
-static inline void call_trim__moves__move_strip(struct slice_mut_u8 state, struct model__State st, uint64_t start)
+static inline void call_trim__moves__move_state(struct slice_mut_u8 state, struct model__State st, uint64_t start)
 {
     uint64_t t4;
 
@@ -5064,7 +5064,7 @@ static inline void call_trim__moves__move_start(struct slice_mut_u8 log, struct 
 {
     call_trim__moves__write_header(batch, st.groups, st.homes, start);
     base_areas__header__put_header(log, 0u, start, st.groups, st.homes);
-    call_trim__moves__move_strip(state, st, start);
+    call_trim__moves__move_state(state, st, start);
     log_newest__positions__forget(newest, 7u * start, st.homes);
     base_state__listed__carry_listed(state, (struct slice_u8){newest.ptr, newest.len}, st.homes);
 }

@@ -3017,7 +3017,7 @@ static inline bool log_scan__commits__is_linked(uint64_t end, uint64_t base, uin
 }
 
 /* Takes a closing entry, complete or not, at a position: it is committed, or the first that fails. */
-static inline struct log_scan__commits__Progress log_scan__commits__judge(struct log_scan__commits__Progress progress,
+static inline struct log_scan__commits__Progress log_scan__commits__decide(struct log_scan__commits__Progress progress,
         uint64_t base, uint64_t position, uint64_t link, bool complete)
 {
     uint64_t t6, t7;
@@ -3053,7 +3053,7 @@ static inline struct log_scan__commits__Progress log_gather__walking__join_closi
     if (32768u <= t11) {
         return (struct log_scan__commits__Progress){.end = progress.end, .number = progress.number, .failed = 2u};
     }
-    t12 = log_scan__commits__judge(progress, base, position, link, ((uint64_t)t11 + 1u) == count);
+    t12 = log_scan__commits__decide(progress, base, position, link, ((uint64_t)t11 + 1u) == count);
     if (t12.failed != 0u) {
         return t12;
     }
@@ -3240,7 +3240,7 @@ static inline struct log_scan__commits__Progress log_scan__commits__visit_closin
     t24 = index - t7;
     t25 = (uint16_t)((uint32_t)counts.ptr[(size_t)t24] + 1u);
     counts.ptr[(size_t)t24] = t25;
-    return log_scan__commits__judge(progress, base, base + index, (word >> 27u) & 8191u, (uint64_t)t25 == t8);
+    return log_scan__commits__decide(progress, base, base + index, (word >> 27u) & 8191u, (uint64_t)t25 == t8);
 }
 
 /* Takes what the word of a tag says at index `index` of the log. */
@@ -5047,7 +5047,7 @@ static inline uint64_t call_trim__moves__kept_last(uint64_t last, uint64_t start
 }
 
 /* Puts the new start, the fenced position and the last closing entry into the strip. */
-static inline void call_trim__moves__move_strip(struct core_slice_mut_u8 state, struct model__State st, uint64_t start)
+static inline void call_trim__moves__move_state(struct core_slice_mut_u8 state, struct model__State st, uint64_t start)
 {
     uint64_t t4;
 
@@ -5085,7 +5085,7 @@ static inline void call_trim__moves__move_start(struct core_slice_mut_u8 log, st
 {
     call_trim__moves__write_header(batch, st.groups, st.homes, start);
     base_areas__header__put_header(log, 0u, start, st.groups, st.homes);
-    call_trim__moves__move_strip(state, st, start);
+    call_trim__moves__move_state(state, st, start);
     log_newest__positions__forget(newest, 7u * start, st.homes);
     base_state__listed__carry_listed(state, (struct core_slice_u8){newest.ptr, newest.len}, st.homes);
 }
@@ -8595,6 +8595,7 @@ int kgt_file_write_back(struct kgt_file *file);
 
 #include <errno.h>
 #include <fcntl.h>
+#include <stdio.h>
 #include <stdlib.h>
 #include <string.h>
 #include <sys/file.h>
@@ -8604,6 +8605,13 @@ int kgt_file_write_back(struct kgt_file *file);
 #include <sys/syscall.h>
 #endif
 #include <unistd.h>
+
+/* How a file without a name is opened, where the system has such. */
+#if defined(O_TMPFILE)
+#define NAMELESS O_TMPFILE
+#elif defined(__O_TMPFILE)
+#define NAMELESS __O_TMPFILE
+#endif
 
 static void clear(struct kgt_file *file)
 {
@@ -8705,17 +8713,23 @@ static bool give_name(struct kgt_file *file, const char *temporary, const char *
     return kgt_file_say(file, "%s: cannot be created: %s", path, strerror(errno));
 }
 
-/* Makes the new name in its folder durable. The path is cut to the folder's. */
-static bool sync_folder(struct kgt_file *file, char *path)
+/* Cuts a path to its folder. */
+static const char *cut_to_folder(char *path)
 {
     char *slash = strrchr(path, '/');
-    const char *name = slash ? path : ".";
-    int folder;
-    bool done;
 
     if (slash)
         slash[slash == path] = '\0';
-    folder = open(name, O_RDONLY | O_DIRECTORY | O_CLOEXEC);
+    return slash ? path : ".";
+}
+
+/* Makes the new name in its folder durable. The path is cut to the folder's. */
+static bool sync_folder(struct kgt_file *file, char *path)
+{
+    const char *name = cut_to_folder(path);
+    int folder = open(name, O_RDONLY | O_DIRECTORY | O_CLOEXEC);
+    bool done;
+
     if (folder < 0)
         return kgt_file_say(file, "%s: cannot be opened: %s", name, strerror(errno));
     done = fsync(folder) == 0 || errno == EINVAL; /* EINVAL: the file system has no such sync */
@@ -8725,16 +8739,49 @@ static bool sync_folder(struct kgt_file *file, char *path)
     return done;
 }
 
+/* A file that has no name until it is whole, so that a killed program leaves none; -1 if system or file system has no such. */
+static int open_nameless(char *path)
+{
+#ifdef NAMELESS
+    char *slash = strrchr(path, '/'), after = slash ? slash[slash == path] : '\0';
+    const char *folder = cut_to_folder(path);
+    int descriptor = access("/proc/self/fd", X_OK) == 0 ? open(folder, NAMELESS | O_RDWR | O_CLOEXEC, 0600) : -1;
+
+    if (slash)
+        slash[slash == path] = after;
+    return descriptor;
+#else
+    (void)path;
+    return -1;
+#endif
+}
+
+static bool name_nameless(struct kgt_file *file, const char *path)
+{
+    char own[40];
+
+    snprintf(own, sizeof own, "/proc/self/fd/%d", file->descriptor);
+    if (linkat(AT_FDCWD, own, AT_FDCWD, path, AT_SYMLINK_FOLLOW) == 0)
+        return true;
+    if (errno == EEXIST)
+        return kgt_file_say(file, "%s: exists already", path);
+    return kgt_file_say(file, "%s: cannot be created: %s", path, strerror(errno));
+}
+
 static bool create_as(struct kgt_file *file, char *temporary, const char *path)
 {
-    bool done;
+    bool named, done;
 
-    file->descriptor = mkstemp(temporary);
+    file->descriptor = open_nameless(temporary);
+    named = file->descriptor < 0;
+    if (named)
+        file->descriptor = mkstemp(temporary);
     if (file->descriptor < 0)
         return kgt_file_say(file, "%s: cannot be created: %s", path, strerror(errno));
     fcntl(file->descriptor, F_SETFD, FD_CLOEXEC);
-    done = file_take_lock(file, path) && fill(file, path) && give_name(file, temporary, path);
-    unlink(temporary);
+    done = file_take_lock(file, path) && fill(file, path) && (named ? give_name(file, temporary, path) : name_nameless(file, path));
+    if (named)
+        unlink(temporary);
     return done && sync_folder(file, temporary);
 }
 
@@ -8830,6 +8877,25 @@ bool kgt_file_open(struct kgt_file *file, const char *path)
     return false;
 }
 
+bool kgt_file_open_or_create(struct kgt_file *file, const char *path, size_t groups, size_t homes)
+{
+    struct stat status;
+
+    if (stat(path, &status) != 0 && kgt_file_create(file, path, groups, homes))
+        return true;
+    if (stat(path, &status) != 0) /* there is none, and the message says why none could be made */
+        return false;
+    if (!kgt_file_open(file, path))
+        return false;
+    if (file->groups == groups && file->homes == homes)
+        return true;
+    kgt_file_say(file, "%s: an image of another shape: %lu groups and %lu homes, not %lu and %lu", path,
+                 (unsigned long)file->groups, (unsigned long)file->homes, (unsigned long)groups, (unsigned long)homes);
+    kgt_file_close(file);
+    return false;
+}
+
+#undef NAMELESS
 #endif
 
 #ifdef KAGUTIN_FILE

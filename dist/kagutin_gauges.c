@@ -144,7 +144,7 @@ static inline bool alone_gauges__readings__acceptable(struct slice_u8 s)
 }
 
 /* The kind of a minute that both lists have. */
-static inline uint64_t alone_gauges__merge__judge(uint64_t a, uint64_t b, uint64_t tolerance)
+static inline uint64_t alone_gauges__merge__kind_of(uint64_t a, uint64_t b, uint64_t tolerance)
 {
     uint64_t t6, t7;
 
@@ -184,7 +184,7 @@ static inline struct alone_gauges__merge__Step alone_gauges__merge__next_line(st
     }
     t47 = i + 2u;
     t57 = j + 2u;
-    t9 = alone_gauges__merge__judge((uint64_t)first.ptr[(size_t)t47] + (256u * (uint64_t)first.ptr[(size_t)(t47 + 1u)]),
+    t9 = alone_gauges__merge__kind_of((uint64_t)first.ptr[(size_t)t47] + (256u * (uint64_t)first.ptr[(size_t)(t47 + 1u)]),
             (uint64_t)second.ptr[(size_t)t57] + (256u * (uint64_t)second.ptr[(size_t)(t57 + 1u)]), tolerance);
     return (struct alone_gauges__merge__Step){.minute = t8, .kind = t9, .first = i + 4u, .second = j + 4u};
 }

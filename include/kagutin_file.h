@@ -37,9 +37,10 @@ struct kgt_file {
 
 /*
  * Makes an image of an empty store under a name that must be free: formatted
- * under a temporary name in the same folder, synced, then linked. Another
- * process that creates the same name at the same time fails. Takes heap memory
- * while it formats.
+ * and synced without a name, then linked, so that a killed program leaves
+ * nothing; under a temporary name in the same folder where the file system has
+ * no files without one. Another process that creates the same name at the same
+ * time fails. Takes heap memory while it formats.
  */
 bool kgt_file_create(struct kgt_file *file, const char *path, size_t groups, size_t homes);
 
@@ -49,6 +50,13 @@ bool kgt_file_create(struct kgt_file *file, const char *path, size_t groups, siz
  * another size than its header says, or that cannot be written back.
  */
 bool kgt_file_open(struct kgt_file *file, const char *path);
+
+/*
+ * Opens the image, or makes one of this shape where there is none: for every
+ * start of a program. The message is that of the step that failed; an image of
+ * another shape is refused.
+ */
+bool kgt_file_open_or_create(struct kgt_file *file, const char *path, size_t groups, size_t homes);
 
 /* Maps an open file: its driver then writes memory, and fences by msync. */
 bool kgt_file_map(struct kgt_file *file);

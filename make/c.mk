@@ -6,9 +6,11 @@
 # c-check                        tests of all of these
 # c-quick                        the quick ones of them, without sanitizers
 # wrapper-check                  tests of the C++ wrapper
+# powerloss-check                the power-loss kit for drivers: finds its six broken ones, passes the good ones
 # snippets-check                 the examples and commands of README, docs and headers: built, run and judged
 # rights-cost                    what questions 19 and 20 cost, by callgrind
 # question-cost                  what question 2 costs; with LIB the archive it is a function of its own
+# wait-cost                      the longest waits: steps, reads, commits and trims over full logs
 # c-kills                        longer: KILLS kills of a process at work, on this disk
 # c-dist                         headers and sources of the store object and its drivers into DIST
 # install, uninstall             headers, libraries, pkg-config files, the program and its manual pages, under DESTDIR and PREFIX, or LIBDIR and INCLUDEDIR
@@ -35,9 +37,11 @@ C_DRIVER_CHECK = tests/programs/driver_check c/station/driver c/station/driver_f
 C_QUICKSTART = c/examples/quickstart $(C_STORE)
 C_STORE_CHECK = tests/store/store_check tests/common/play $(C_STORE)
 C_RESERVE_CHECK = tests/store/reserve_check $(C_STORE)
+C_MANY_CHECK = tests/store/many_check
 C_ROUND_CHECK = tests/store/round_check $(C_STORE)
 C_RIGHTS_CHECK = tests/store/rights_check $(C_STORE)
 C_FILE_CHECK = tests/drivers/file_check tests/common/play $(C_STORE)
+C_CREATE_CHECK = tests/drivers/create_check $(C_STORE)
 C_KILL_CHECK = tests/drivers/kill_check tests/common/play $(C_STORE)
 C_FRAM_CHECK = tests/drivers/fram_check tests/common/play $(C_STORE)
 C_DUMP_CHECK = tests/drivers/dump_check tests/common/play c/common/homes c/common/copy c/common/image_file c/common/rule $(C_STORE)
@@ -48,7 +52,8 @@ C_SEAL_CHECK = tests/programs/seal_check $(C_STORE)
 C_GAUGES_COST = tests/costs/gauges_cost
 C_RIGHTS_COST = tests/costs/rights_cost
 C_QUESTION_COST = tests/costs/question_cost
-C_PROGRAMS = quickstart driver_check store_check reserve_check round_check rights_check file_check kill_check fram_check dump_check format_check reopen_check disk_check seal_check gauges_cost rights_cost question_cost
+C_WAIT_COST = tests/costs/wait_cost
+C_PROGRAMS = quickstart driver_check store_check reserve_check many_check round_check rights_check file_check create_check kill_check fram_check dump_check format_check reopen_check disk_check seal_check gauges_cost rights_cost question_cost wait_cost
 
 .PHONY: quickstart c-sanitize c-check c-kills c-dist install uninstall c-clean
 
@@ -57,7 +62,7 @@ c-sanitize: $(C_PROGRAMS:%=$(C_OUT)/sanitize/%)
 
 $(C_OBJECTS)/%.o: %.c $(C_HEADERS)
 	@mkdir -p $(@D)
-	$(CC) $(C_FLAGS) $(CFLAGS) -c $< -o $@
+	$(CC) $(C_FLAGS) $(CPPFLAGS) $(CFLAGS) -c $< -o $@
 
 $(C_OUT)/sanitize/obj/%.o: %.c $(C_HEADERS)
 	@mkdir -p $(@D)
@@ -77,7 +82,7 @@ $(C_LINKED):
 # One program in both builds: its name, its objects, the libraries it needs.
 define C_PROGRAM
 $(C_OUT)/$(1): $(2:%=$(C_OBJECTS)/%.o) $(3) $(if $(3),$(C_LINKED))
-	$$(CC) $$(CFLAGS) $$(filter-out $(C_LINKED),$$^) $(if $(3),$$(C_LIBS)) -o $$@
+	$$(CC) $$(CFLAGS) $$(LDFLAGS) $$(filter-out $(C_LINKED),$$^) $(if $(3),$$(C_LIBS)) -o $$@
 
 $(C_OUT)/sanitize/$(1): $(2:%=$(C_OUT)/sanitize/obj/%.o) $(3:$(C_OUT)/%=$(C_OUT)/sanitize/%) $(if $(3),$(C_LINKED))
 	$$(CC) $$(C_SANITIZE) $$(filter-out $(C_LINKED),$$^) $(if $(3),$$(C_LIBS)) -o $$@
@@ -87,9 +92,11 @@ $(eval $(call C_PROGRAM,quickstart,$(C_QUICKSTART),$(LIB)))
 $(eval $(call C_PROGRAM,driver_check,$(C_DRIVER_CHECK),$(LIB)))
 $(eval $(call C_PROGRAM,store_check,$(C_STORE_CHECK),$(LIB)))
 $(eval $(call C_PROGRAM,reserve_check,$(C_RESERVE_CHECK),$(LIB)))
+$(eval $(call C_PROGRAM,many_check,$(C_MANY_CHECK),$(LIB)))
 $(eval $(call C_PROGRAM,round_check,$(C_ROUND_CHECK),$(LIB)))
 $(eval $(call C_PROGRAM,rights_check,$(C_RIGHTS_CHECK),$(LIB)))
 $(eval $(call C_PROGRAM,file_check,$(C_FILE_CHECK),$(LIB)))
+$(eval $(call C_PROGRAM,create_check,$(C_CREATE_CHECK),$(LIB)))
 $(eval $(call C_PROGRAM,kill_check,$(C_KILL_CHECK),$(LIB)))
 $(eval $(call C_PROGRAM,fram_check,$(C_FRAM_CHECK),$(LIB)))
 $(eval $(call C_PROGRAM,dump_check,$(C_DUMP_CHECK),$(LIB)))
@@ -100,6 +107,7 @@ $(eval $(call C_PROGRAM,seal_check,$(C_SEAL_CHECK),$(LIB)))
 $(eval $(call C_PROGRAM,gauges_cost,$(C_GAUGES_COST),$(GAUGES_LIB)))
 $(eval $(call C_PROGRAM,rights_cost,$(C_RIGHTS_COST),$(LIB)))
 $(eval $(call C_PROGRAM,question_cost,$(C_QUESTION_COST),$(LIB)))
+$(eval $(call C_PROGRAM,wait_cost,$(C_WAIT_COST),$(LIB)))
 
 c-check: $(C_PROGRAMS:%=$(C_OUT)/%) c-sanitize
 	CC="$(CC)" LIB="$(LIB)" C_LIBS="$(C_LIBS)" sh tests/c-check.sh $(C_OUT)
@@ -108,18 +116,21 @@ c-check: $(C_PROGRAMS:%=$(C_OUT)/%) c-sanitize
 
 # The quick tests, in seconds.
 C_QUICK = station inspect quickstart gauges inflow bands wear driver_check store_check reserve_check round_check rights_check file_check fram_check \
-    format_check reopen_check units_check replies_check lock_check misuse_check
+    format_check reopen_check powerloss_check units_check replies_check lock_check misuse_check
 .PHONY: c-quick
 c-quick: $(C_QUICK:%=$(C_OUT)/%)
 	CC="$(CC)" LIB="$(LIB)" C_LIBS="$(C_LIBS)" sh tests/quick.sh $(C_OUT)
 
-# Instructions of a store and a read under a list of rights, and of question 2, by callgrind.
-.PHONY: rights-cost question-cost
+# Instructions of a store and a read under a list of rights, of question 2, and of the longest calls, by callgrind.
+.PHONY: rights-cost question-cost wait-cost
 rights-cost: $(C_OUT)/rights_cost
 	sh tests/costs/rights-cost.sh $(C_OUT)
 
 question-cost: $(C_OUT)/question_cost
 	sh tests/costs/question-cost.sh $(C_OUT)
+
+wait-cost: $(C_OUT)/wait_cost
+	sh tests/costs/wait-cost.sh $(C_OUT)
 
 # A process killed at random instants, long.
 KILLS ?= 1000
@@ -152,7 +163,8 @@ INCLUDEDIR ?= $(PREFIX_HERE)/include
 TO_LIB = $(DESTDIR)$(LIBDIR)
 TO_INCLUDE = $(DESTDIR)$(INCLUDEDIR)
 
-C_INSTALLED = $(C_PUBLIC:%=include/%.h) $(C_WRAPPER) $(C_STANDALONE:%=include/%.h)
+# Both ways to include them: by subject, and kagutin_all.h, as the README has it.
+C_INSTALLED = $(C_PUBLIC:%=include/%.h) $(C_WRAPPER) $(C_STANDALONE:%=include/%.h) dist/kagutin_all.h
 C_INSTALLED_LIBS = libkagutin.a libkagutin_store.a $(C_STANDALONE:%=lib%.a)
 PC_FILES = kagutin.pc kagutin-units.pc
 
@@ -175,6 +187,8 @@ uninstall:
 include make/port.mk
 include make/units.mk
 include make/program.mk
+include make/powerloss.mk
+include make/rtos.mk
 include make/fuzz.mk
 include make/all_in_one.mk
 include make/build_systems.mk
@@ -194,9 +208,10 @@ endef
 $(foreach part,kagutin $(patsubst %,kagutin_%,$(STANDALONE) $(UNITS)),$(eval $(call C_ARCHIVE,$(part),dist/$(part))))
 $(eval $(call C_ARCHIVE,kagutin_store,$(C_STORE)))
 $(eval $(call C_ARCHIVE,kagutin_units,c/store/units))
+$(eval $(call C_ARCHIVE,kagutin_powerloss,$(C_POWERLOSS)))
 
 # Every C example of README, docs and headers, and every command there.
-SNIPPET_LIBS = $(C_UNITS_LIB) $(UNITS_LIBS) $(STORE_LIB) $(LIB)
+SNIPPET_LIBS = $(POWERLOSS_LIB) $(C_UNITS_LIB) $(UNITS_LIBS) $(STORE_LIB) $(LIB)
 SNIPPET_SANITIZED = $(SNIPPET_LIBS:$(C_OUT)/%=$(C_OUT)/sanitize/%)
 SNIPPET_PROGRAMS = $(patsubst %,$(C_OUT)/%,quickstart station bands wear gauges inflow)
 

@@ -7,9 +7,9 @@
 
 C_STATION = main options power tasks wear rights calls event_calls refusals report station events book driver driver_file
 C_COMMON = alarms/main bands/main bands/table carry/blocks carry/blocks_json carry/export carry/import \
-    common/command common/copy common/homes common/image_file common/new_file common/page_file common/records common/rule \
+    common/command common/copy common/homes common/image_file common/nameless common/new_file common/page_file common/records common/rule \
     common/text_file common/text_line common/work convert/main gauges/levels_plot gauges/main gauges/readings gauges/times inflow/main \
-    inspect/fate inspect/image inspect/json inspect/main inspect/rights inspect/text inspect/units kagutin/main make/main rights/list_file rights/main
+    inspect/fate inspect/image inspect/json inspect/main inspect/missing inspect/rights inspect/text inspect/units kagutin/main make/main rights/list_file rights/main
 C_KAGUTIN = $(sort $(C_COMMON:%=c/%) $(C_STATION:%=c/station/%) $(C_WEAR) c/store/units $(C_STORE))
 C_KAGUTIN_LIBS = $(UNITS_LIBS) $(LIB) $(GAUGES_LIB) $(INFLOW_LIB)
 
@@ -22,7 +22,7 @@ $(eval $(call C_PROGRAM,kagutin,$(C_KAGUTIN),$(C_KAGUTIN_LIBS)))
 .PHONY: program kagutin $(C_LINKS)
 
 program: $(foreach f,kagutin $(C_LINKS),$(C_OUT)/$(f) $(C_OUT)/sanitize/$(f))
-kagutin: $(C_OUT)/kagutin
+kagutin: $(C_OUT)/kagutin $(C_LINKS:%=$(C_OUT)/%)
 $(C_LINKS): %: $(C_OUT)/%
 c-sanitize: $(C_OUT)/sanitize/kagutin $(C_LINKS:%=$(C_OUT)/sanitize/%)
 c-check: program

@@ -31,7 +31,7 @@ units-dist-check:
 	@echo "dist: $(UNITS_DIST): what the proved program gives"
 
 C_UNITS = units_check pump_image units_cost replies_check lock_check misuse_check
-C_WEAR = $(addprefix c/wear/,wear options images services last words text csv page page_parts) $(addprefix c/common/,page_file csv day)
+C_WEAR = $(addprefix c/wear/,wear options images remarks services last words text csv page page_parts) $(addprefix c/common/,page_file csv day)
 C_UNITS_CHECK = tests/store/units_check c/store/units $(C_STORE)
 C_PUMP_IMAGE = tests/programs/pump_image c/store/units $(C_STORE)
 C_UNITS_COST = tests/costs/units_cost $(C_STORE)

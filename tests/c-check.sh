@@ -85,9 +85,11 @@ gives 0 "driver" "$san/driver_check" "$tmp/driver.img"
 gives 0 "store: power gone after every byte, any words or blocks at a cut" "$out/store_check" 1 5000
 gives 0 "store: the same under sanitizers, every 17 bytes" "$san/store_check" 17 1500
 gives 0 "store: places promised beforehand" "$san/reserve_check"
+gives 0 "store: calls on several homes, refusal by refusal" "$san/many_check"
 gives 0 "store: settling in small steps, cut inside a round" "$san/round_check"
 gives 0 "store: the list of rights, its ranges and the moment it counts" "$san/rights_check"
 gives 0 "files: written and mapped, stopped inside writes, locks, failures" "$san/file_check" "$fast"
+gives 0 "files: made by many at once, by a process that is killed, or not at all" "$san/create_check" "$tmp"
 gives 0 "FRAM: power gone after every byte, at work and inside a format" "$out/fram_check" 1
 gives 0 "FRAM: under sanitizers" "$san/fram_check" 13
 gives 0 "FRAM: dumps by the tools' readers, against the driver" "$san/dump_check" "$fast" 300
@@ -200,7 +202,7 @@ sys.exit(not (r["list"] and len(r["writers"]) == 8 and r["writers"][2]["store"] 
 e = [x["comes_back"] for s in v["slots"] for x in s.get("entries", []) if x["kind"] != "nothing"]
 t = [x for s in v["slots"] for x in s.get("entries", []) if x.get("torn")]
 sys.exit(not (sum(p.values()) == 7 * len(v["slots"]) and p["committed"] == sum(e) and p["others"] == len(e) - sum(e) > 0
-    and p["torn"] == len(t) > 0 and all("has not arrived" in x["why"] for x in t)))' "$tmp/out" 2>> "$tmp/log"
+    and p["torn"] == len(t) + sum(s.get("torn", 0) for s in v["slots"]) > 0 < len(t) and all("has not arrived" in x["why"] for x in t)))' "$tmp/out" 2>> "$tmp/log"
     report $? "inspect: places with entries that come back, with others, torn, unused"
     bad=$(printf '%s/bad\377name.img' "$tmp"); cp "$image" "$bad"
     "$san/inspect" --json "$bad" > "$tmp/out" 2> "$tmp/log"
@@ -212,6 +214,7 @@ grep -q '^ *7 .*2 starts.*from position' "$tmp/out"; report $? "inspect: a home'
 printf 'torn' | dd of="$tmp/quickstart.img" bs=1 seek=$((64 + 512 * 9 + 70)) conv=notrunc 2> /dev/null
 gives 0 "inspect a torn group whose number has not arrived" "$san/inspect" "$tmp/quickstart.img"
 grep -q 'its number has not arrived' "$tmp/out"; report $? "inspect: says so"
+grep -q '^places .* 1 torn, ' "$tmp/out"; report $? "inspect: and counts its block among the torn places"
 grep -q 'blank, not written since' "$tmp/out"; report $? "inspect: names blank slots"
 printf '\120\110' | dd of="$tmp/quickstart.img" bs=1 conv=notrunc 2> /dev/null
 gives 1 "inspect an image of the older format" "$san/inspect" --groups 16 "$tmp/quickstart.img"
@@ -265,8 +268,9 @@ for length in 0 1 63 64 100 600 $((size - 1)) $((size - 64)); do
     cp "$tmp/short.img" "$tmp/same.img"
     gives 3 "station on an image cut to $length bytes" "$san/station" --file "$tmp/short.img"
     cmp -s "$tmp/short.img" "$tmp/same.img"; report $? "and it leaves it alone"
-    gives 1 "inspect an image cut to $length bytes" "$san/inspect" "$tmp/short.img"
-    gives 1 "inspect it with --groups" "$san/inspect" --json --groups 12 "$tmp/short.img"
+    if [ "$length" -eq 0 ]; then damaged=3; else damaged=1; fi
+    gives $damaged "inspect an image cut to $length bytes" "$san/inspect" "$tmp/short.img"
+    gives $damaged "inspect it with --groups" "$san/inspect" --json --groups 12 "$tmp/short.img"
 done
 cat "$tmp/kept.img" "$tmp/headers.c" > "$tmp/long.img"
 says "overlong" 3 "station on an overlong file" "$san/station" --file "$tmp/long.img"

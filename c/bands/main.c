@@ -4,7 +4,6 @@
 #include <string.h>
 
 #include "common/command.h"
-#include "common/copy.h"
 #include "common/work.h"
 #include "kagutin/programs.h"
 #include "kagutin_units.h"
@@ -12,8 +11,8 @@
 
 static const char help[] =
     "usage: kagutin bands set [--writer W] IMAGE TABLE.txt\n"
-    "       kagutin bands show [--writer W] IMAGE\n"
-    "       kagutin bands at [--writer W] IMAGE MM\n"
+    "       kagutin bands show [--writer W] [--base N] IMAGE\n"
+    "       kagutin bands at [--writer W] [--base N] IMAGE MM\n"
     "Which pumps run at which depth, as the table in homes 12 to 14 of an image.\n"
     "  set    puts the table of a text file in, as one transaction: a power cut leaves this table or the one before\n"
     "  show   prints the table as such a file; also of a raw dump of a serial FRAM\n"
@@ -21,8 +20,9 @@ static const char help[] =
     "A line of the file is: from to pumps, in mm, both included; # begins a comment. Rows may stand in any order; every\n"
     "millimetre from 0 to 9999 lies in exactly one of at most 32, and pumps go from 0 to 4.\n"
     "  --writer W   the writer that stores or reads, 0 to 7 (the lowest that has the right)\n"
+    "  --base N     where the store begins in a dump (0)\n"
     "  -h, --help, --version\n"
-    "show and at leave the image as it is.\n"
+    "show and at leave the image as it is, and so does a set that is refused.\n"
     "Status: 0 done, 1 the table is refused, or there is none, 2 wrong options, 3 a file cannot be read or written.\n";
 
 enum { ANY_WRITER = KAGUTIN_WRITERS };
@@ -30,17 +30,19 @@ enum { ANY_WRITER = KAGUTIN_WRITERS };
 struct options {
     const char *words[3]; /* command, image, and a table or a depth */
     int count;
-    uint64_t writer;
+    uint64_t writer, base;
 };
 
 static struct options read_options(int count, char **words)
 {
-    struct options options = {{NULL, NULL, NULL}, 0, ANY_WRITER};
+    struct options options = {{NULL, NULL, NULL}, 0, ANY_WRITER, 0};
     int i;
 
     for (i = 1; i < count; i++) {
         if (strcmp(words[i], "--writer") == 0)
             options.writer = command_number("--writer", words[++i], 0, KAGUTIN_WRITERS - 1);
+        else if (command_base(words[i], words[i + 1], &options.base))
+            i++;
         else if (command_option(words[i]))
             continue;
         else if (options.count == 3)
@@ -86,6 +88,27 @@ static void quit_answer(const struct options *options, uint64_t code)
 
 /* ---- the three commands ---- */
 
+/* Tries the table on a copy: whatever refuses it there leaves the image as it is. The writer that stores it. */
+static uint64_t try_table(const struct options *options, struct table *table)
+{
+    struct kgt_table set;
+    struct copy copy;
+    uint64_t writer;
+
+    if (!work_try(&copy, options->words[1]))
+        command_quit(STATUS_TROUBLE, "%s", copy.message);
+    writer = choose_writer(options, &copy.store, copy.homes, true);
+    set = kgt_bands_set(&copy.store, writer, table->strip, KAGUTIN_BAND_SIZE * table->count);
+    if (set.code >= KAGUTIN_BAD_BANDS && set.code <= KAGUTIN_BAND_OVERLAP) {
+        table_explain(table, set.code, set.mm);
+        command_quit(STATUS_REFUSED, "%s", table->message);
+    }
+    if (set.code != KAGUTIN_DONE)
+        quit_answer(options, set.code);
+    copy_close(&copy);
+    return writer;
+}
+
 static void set_table(const struct options *options)
 {
     const char *path = options->words[1];
@@ -95,16 +118,14 @@ static void set_table(const struct options *options)
     struct work work;
     uint64_t writer;
 
+    if (options->base)
+        command_quit(STATUS_USAGE, "--base is for show and at: a dump is not changed in place");
     if (!table_read(&table, options->words[2]))
         command_quit(STATUS_TROUBLE, "%s", table.message);
+    writer = try_table(options, &table);
     if (!work_open(&work, path))
         command_quit(STATUS_TROUBLE, "%s", work.message);
-    writer = choose_writer(options, &work.store, work.file.homes, true);
     set = kgt_bands_set(&work.store, writer, table.strip, KAGUTIN_BAND_SIZE * table.count);
-    if (set.code >= KAGUTIN_BAD_BANDS && set.code <= KAGUTIN_BAND_OVERLAP) {
-        table_explain(&table, set.code, set.mm);
-        command_quit(STATUS_REFUSED, "%s", table.message);
-    }
     if (set.code != KAGUTIN_DONE)
         quit_answer(options, set.code);
     mark = kgt_sync(&work.store);
@@ -119,10 +140,8 @@ static struct kgt_band look_up(struct copy *copy, const struct options *options,
 {
     struct kgt_band band = kgt_bands_look_up(&copy->store, writer, mm);
 
-    if (band.code == KAGUTIN_BAD_BANDS && mm < KAGUTIN_DEPTHS)
-        command_quit(STATUS_REFUSED, "%s: no table is set", options->words[1]);
     if (band.code == KAGUTIN_BAD_BANDS)
-        command_quit(STATUS_REFUSED, "depths go from 0 to 9999 mm, not %llu", (unsigned long long)mm);
+        command_quit(STATUS_REFUSED, "%s: no table is set", options->words[1]);
     if (band.code != KAGUTIN_DONE)
         quit_answer(options, band.code);
     return band;
@@ -135,7 +154,7 @@ static void show_table(const struct options *options)
     struct copy copy;
     uint64_t mm, writer;
 
-    if (!copy_open(&copy, options->words[1]))
+    if (!copy_open(&copy, options->words[1], options->base))
         command_quit(STATUS_TROUBLE, "%s", copy.message);
     writer = choose_writer(options, &copy.store, copy.homes, false);
     look_up(&copy, options, writer, 0);
@@ -150,11 +169,11 @@ static void show_table(const struct options *options)
 
 static void show_depth(const struct options *options)
 {
-    uint64_t mm = command_number("MM", options->words[2], 0, UINT64_MAX);
+    uint64_t mm = command_number("MM", options->words[2], 0, KAGUTIN_DEPTHS - 1);
     struct kgt_band band;
     struct copy copy;
 
-    if (!copy_open(&copy, options->words[1]))
+    if (!copy_open(&copy, options->words[1], options->base))
         command_quit(STATUS_TROUBLE, "%s", copy.message);
     band = look_up(&copy, options, choose_writer(options, &copy.store, copy.homes, false), mm);
     printf("%llu mm: %llu pump%s, as from %llu to %llu mm\n", (unsigned long long)mm, (unsigned long long)band.pumps,

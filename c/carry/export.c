@@ -14,7 +14,7 @@ static const char help[] =
     "left out. A worn-out image is read like any other, and so is one of the older format (mark 50 48): 'kagutin import'\n"
     "makes a new image of what is printed.\n"
     "  --as KIND  json, csv or hex (json)\n"
-    "  --base N   where the store begins in the file (0)\n"
+    "  --base N   where the store begins in a dump (0)\n"
     "  -h, --help, --version\n"
     "Status: 0 done, 2 wrong options, 3 the file cannot be read, or is damaged.\n";
 
@@ -62,11 +62,15 @@ static void print_json(const struct homes *homes)
     puts("\n]}");
 }
 
+/* The first line tells how many rows there are, so that a text that is cut off is noticed. */
 static void print_rows(const struct homes *homes, bool csv)
 {
-    size_t home;
+    size_t home, count = 0;
 
-    printf("# groups %lu homes %lu\n%s", (unsigned long)homes->groups, (unsigned long)homes->homes, csv ? "home,block\n" : "");
+    for (home = 0; home < homes->homes; home++)
+        count += !is_zero(homes->blocks + BLOCK_SIZE * home);
+    printf("# groups %lu homes %lu blocks %lu\n%s", (unsigned long)homes->groups, (unsigned long)homes->homes,
+           (unsigned long)count, csv ? "home,block\n" : "");
     for (home = 0; home < homes->homes; home++) {
         const uint8_t *block = homes->blocks + BLOCK_SIZE * home;
 
@@ -89,8 +93,8 @@ int export_main(int count, char **words)
     for (i = 1; i < count; i++) {
         if (strcmp(words[i], "--as") == 0)
             as = command_value("--as", words[++i]);
-        else if (strcmp(words[i], "--base") == 0)
-            base = command_number("--base", words[++i], 0, UINT32_MAX);
+        else if (command_base(words[i], words[i + 1], &base))
+            i++;
         else if (command_option(words[i]))
             continue;
         else if (path)

@@ -85,3 +85,11 @@ uint64_t command_number(const char *what, const char *word, uint64_t least, uint
                      (unsigned long long)most, text);
     return number;
 }
+
+bool command_base(const char *word, const char *next, uint64_t *base)
+{
+    if (strcmp(word, "--base") != 0)
+        return false;
+    *base = command_number(word, next, 0, COMMAND_MOST_CHIP - 1);
+    return true;
+}

@@ -28,6 +28,10 @@ const char *command_value(const char *option, const char *word);
 /* A whole number in a range, as the value of an option or a word. */
 uint64_t command_number(const char *what, const char *word, uint64_t least, uint64_t most);
 
+/* --base N, for all that read a dump: where the store begins in it. True if the word is this option, and next was its value. */
+bool command_base(const char *word, const char *next, uint64_t *base);
+enum { COMMAND_MOST_CHIP = 16777216 };
+
 /* Flushes standard output; the status, or STATUS_TROUBLE if it could not be written. */
 int command_end(int status);
 

@@ -46,14 +46,19 @@ static size_t number16(const uint8_t *bytes)
 /* Finds the shape, and holds the size against it; a dump may have more behind. */
 static bool check_shape(struct copy *copy, const char *path, const struct image_file *file)
 {
+    char hint[IMAGE_FILE_HINT];
     size_t size;
 
     if (file->size < KAGUTIN_HEADER_SIZE)
         return say(copy, "%s: no image: it has %llu bytes", path, (unsigned long long)file->size);
     if (copy->image[0] == 0x50 && copy->image[1] == 0x48)
-        return say(copy, "%s: an image of an older format: the header's mark is 50 48, not 50 54", path);
+        return say(copy,
+                   "%s: an image of the older format (mark 50 48); 'kagutin export' and 'kagutin import' carry its homes into a "
+                   "new image",
+                   path);
     if (copy->image[0] != 0x50 || copy->image[1] != 0x54)
-        return say(copy, "%s: no image: the header's mark is %02X %02X, not 50 54", path, copy->image[0], copy->image[1]);
+        return say(copy, "%s: no image: the header's mark is %02X %02X, not 50 54%s", path, copy->image[0], copy->image[1],
+                   image_file_hint(file, hint));
     copy->groups = number16(copy->image + 8);
     copy->homes = number16(copy->image + 10);
     size = KGT_LOG_SIZE(copy->groups) + KGT_HOMES_SIZE(copy->homes);
@@ -76,19 +81,20 @@ static bool open_store(struct copy *copy, const char *path)
     code = kgt_init(&copy->store, copy->memory, size, copy->groups, copy->homes, driver).code;
     if (code == KAGUTIN_DONE)
         code = kgt_open(&copy->store).code;
-    if (code != KAGUTIN_DONE)
-        return say(copy, "%s: cannot be opened: %s", path, kgt_answer_text(code));
-    return true;
+    if (code == KAGUTIN_WORN_OUT)
+        return say(copy, "%s: worn out; 'kagutin export' and 'kagutin import' carry its homes into a new image", path);
+    return code == KAGUTIN_DONE || say(copy, "%s: cannot be opened: %s", path, kgt_answer_text(code));
 }
 
-bool copy_open(struct copy *copy, const char *path)
+bool copy_open(struct copy *copy, const char *path, uint64_t base)
 {
     struct image_file file;
 
     memset(copy, 0, sizeof *copy);
-    if (!image_file_read(&file, path, 0, IMAGE_FILE_FREE))
+    if (!image_file_read(&file, path, base, IMAGE_FILE_FREE))
         return say(copy, "%s", file.message);
     copy->image = file.bytes;
+    copy->dump = file.dump;
     if (check_shape(copy, path, &file) && open_store(copy, path))
         return true;
     copy_close(copy);

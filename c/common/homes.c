@@ -25,6 +25,7 @@ static bool check_shape(struct homes *homes, const char *path, const struct imag
 {
     const uint8_t *header = file->bytes;
     uint64_t most = (uint64_t)1 << 47, size;
+    char hint[IMAGE_FILE_HINT];
     size_t i;
 
     homes->older = header[0] == 0x50 && header[1] == 0x48;
@@ -35,7 +36,8 @@ static bool check_shape(struct homes *homes, const char *path, const struct imag
     if (file->size < HEADER)
         return say(homes, "%s: no image: it has %llu bytes", path, (unsigned long long)file->size);
     if (header[0] != 0x50 || (header[1] != 0x54 && !homes->older))
-        return say(homes, "%s: no image: the header's mark is %02X %02X, not 50 54", path, header[0], header[1]);
+        return say(homes, "%s: no image: the header's mark is %02X %02X, not 50 54%s", path, header[0], header[1],
+                   image_file_hint(file, hint));
     for (i = 12; i < HEADER; i++)
         if (header[i])
             return say(homes, "%s: damaged header: byte %lu is not zero", path, (unsigned long)i);

@@ -47,6 +47,15 @@ static bool later(const uint8_t *one, const uint8_t *other)
     return false;
 }
 
+static enum image_file_header look_at(const uint8_t *copy, const uint8_t *counts)
+{
+    static const uint8_t none[2 * USED] = {0};
+
+    if (whole(copy))
+        return memcmp(copy, counts, USED) == 0 ? HEADER_SAME : HEADER_OLDER;
+    return memcmp(copy, none, sizeof none) == 0 ? HEADER_UNWRITTEN : HEADER_TORN;
+}
+
 /* Puts the header that counts in the place of the two copies. */
 static void join_header(struct image_file *file)
 {
@@ -60,7 +69,7 @@ static void join_header(struct image_file *file)
     if (!file->dump)
         return;
     file->copy = !first || (second && later(copies + COPY, copies));
-    file->other_whole = first && second;
+    file->the_other = look_at(copies + COPY * (1 - file->copy), copies + COPY * file->copy);
     memset(file->bytes, 0, HEADER);
     memcpy(file->bytes, copies + COPY * file->copy, USED);
 }
@@ -71,34 +80,81 @@ void image_file_split_header(const uint8_t header[64], uint8_t copies[64])
 
     memset(copies, 0, HEADER);
     for (i = 0; i < USED; i++) {
-        copies[i] = header[i];
-        copies[USED + i] = (uint8_t)~header[i];
+        copies[i] = copies[COPY + i] = header[i];
+        copies[USED + i] = copies[COPY + USED + i] = (uint8_t)~header[i];
     }
+}
+
+/* Does an image, of this format or the older one, begin with these 64 bytes? */
+static bool is_image(const uint8_t *header)
+{
+    size_t i;
+
+    for (i = USED; i < HEADER; i++)
+        if (header[i])
+            return false;
+    return header[0] == 0x50 && (header[1] == 0x54 || header[1] == 0x48);
 }
 
 /* ---- reading ---- */
 
-static bool read_bytes(struct image_file *file, const char *path, int descriptor, uint64_t base)
+/* At the base, or at 0 for an image. */
+static uint64_t find_begin(int descriptor, uint64_t base)
 {
-    size_t most = file->size < IMAGE_FILE_MOST ? (size_t)file->size : IMAGE_FILE_MOST, done = 0;
+    uint8_t front[HEADER], there[HEADER];
 
-    file->bytes = (uint8_t *)calloc(1, IMAGE_FILE_MOST);
+    if (base == 0 || pread(descriptor, front, HEADER, 0) != HEADER || !is_image(front))
+        return base;
+    if (pread(descriptor, there, HEADER, (off_t)base) == HEADER && (whole(there) || whole(there + COPY)))
+        return base;
+    return 0;
+}
+
+static bool read_bytes(struct image_file *file, const char *path, int descriptor)
+{
+    size_t most = file->size < IMAGE_FILE_MOST ? (size_t)file->size : IMAGE_FILE_MOST;
+
+    file->bytes = (uint8_t *)calloc(1, most < HEADER ? HEADER : most);
     if (!file->bytes)
         return say(file, "%s: out of memory", path);
-    while (done < most) {
-        ssize_t count = pread(descriptor, file->bytes + done, most - done, (off_t)(base + done));
+    while (file->read < most) {
+        ssize_t count = pread(descriptor, file->bytes + file->read, most - file->read, (off_t)(file->base + file->read));
 
         if (count < 0 && errno == EINTR)
             continue;
         if (count < 0)
             return say(file, "%s: cannot be read: %s", path, strerror(errno));
         if (count == 0) { /* it has shrunk meanwhile */
-            file->size = done;
+            file->size = file->read;
             break;
         }
-        done += (size_t)count;
+        file->read += (size_t)count;
     }
     return true;
+}
+
+/* The first place where a copy of a dump's header stands, of this format or the older one. */
+static void look_for_store(struct image_file *file)
+{
+    size_t at;
+
+    for (at = 1; at + HEADER <= file->read; at++) {
+        const uint8_t *bytes = file->bytes + at;
+
+        if (bytes[0] == 0x50 && (bytes[1] == 0x54 || bytes[1] == 0x48) && whole(bytes)) {
+            file->found = file->base + at;
+            return;
+        }
+    }
+}
+
+const char *image_file_hint(const struct image_file *file, char text[IMAGE_FILE_HINT])
+{
+    text[0] = '\0';
+    if (file->found)
+        snprintf(text, IMAGE_FILE_HINT, "; a store begins at byte %llu: --base %llu", (unsigned long long)file->found,
+                 (unsigned long long)file->found);
+    return text;
 }
 
 static bool read_file(struct image_file *file, const char *path, int descriptor, uint64_t base, enum image_file_use use)
@@ -111,13 +167,18 @@ static bool read_file(struct image_file *file, const char *path, int descriptor,
         return say(file, "%s: not a regular file", path);
     if (use == IMAGE_FILE_FREE && flock(descriptor, LOCK_SH | LOCK_NB) != 0 && errno == EWOULDBLOCK)
         return say(file, "%s: in use", path);
-    if (base > (uint64_t)status.st_size)
+    if (status.st_size == 0)
+        return say(file, "%s: the file is empty", path);
+    file->base = find_begin(descriptor, base);
+    if (file->base >= (uint64_t)status.st_size)
         return say(file, "%s: it has %lld bytes, and none from %llu on", path, (long long)status.st_size,
                    (unsigned long long)base);
-    file->size = (uint64_t)status.st_size - base;
-    if (!read_bytes(file, path, descriptor, base))
+    file->size = (uint64_t)status.st_size - file->base;
+    if (!read_bytes(file, path, descriptor))
         return false;
     join_header(file);
+    if (!file->dump && !is_image(file->bytes))
+        look_for_store(file);
     return true;
 }
 

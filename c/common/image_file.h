@@ -6,8 +6,13 @@
 #include <stddef.h>
 #include <stdint.h>
 
+enum { IMAGE_FILE_HINT = 80 };
+
 /* The largest image, in bytes. */
 #define IMAGE_FILE_MOST (64u + 512u * 1024u + 64u * 65535u)
+
+/* A copy of a dump's header beside the one that counts. */
+enum image_file_header { HEADER_OLDER, HEADER_SAME, HEADER_UNWRITTEN, HEADER_TORN };
 
 /*
  * A file as it was read. In a dump the first twelve bytes of the header stand
@@ -17,11 +22,15 @@
  * have more bytes behind.
  */
 struct image_file {
-    uint8_t *bytes; /* IMAGE_FILE_MOST of them; what the file lacks is zeros */
+    uint8_t *bytes; /* as many as were read, and a header's 64 at least; what the file lacks of it is zeros */
+    size_t read;    /* the file's bytes from the base on, up to IMAGE_FILE_MOST */
     uint64_t size;  /* of the whole file, from the base on */
+    uint64_t base;  /* where the store begins in the file */
     bool dump;
-    unsigned copy;    /* of a dump: the copy that counts, 0 or 1 */
-    bool other_whole; /* of a dump: the other copy is whole, too */
+    unsigned copy;                    /* of a dump: the copy that counts, 0 or 1 */
+    enum image_file_header the_other; /* of a dump: the other copy */
+    uint64_t
+        found; /* no store begins at the base: where in the file a dump's header stands, to be named in a message; 0 if nowhere */
     char message[320];
 };
 
@@ -29,14 +38,19 @@ struct image_file {
 enum image_file_use { IMAGE_FILE_FREE, IMAGE_FILE_IN_USE };
 
 /*
- * Reads a regular file from an offset on; false leaves a message. Files of any
- * size are read, up to the largest image; what the bytes are is not asked.
+ * Reads a regular file from a base on; false leaves a message. Files of any
+ * size are read, up to the largest image; what the bytes are is not asked. An
+ * image begins where its file does: the base is passed over if no dump's header
+ * stands there and an image's stands at 0.
  */
 bool image_file_read(struct image_file *file, const char *path, uint64_t base, enum image_file_use use);
 
 void image_file_free(struct image_file *file);
 
-/* The 64 bytes of a dump's header, the first copy the one that counts. */
+/* For messages about a header without its mark: "; a store begins at byte N: --base N", or nothing. */
+const char *image_file_hint(const struct image_file *file, char text[IMAGE_FILE_HINT]);
+
+/* The 64 bytes of a dump's header: both copies, the same. */
 void image_file_split_header(const uint8_t header[64], uint8_t copies[64]);
 
 #endif

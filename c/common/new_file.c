@@ -9,6 +9,8 @@
 #include <sys/stat.h>
 #include <unistd.h>
 
+#include "nameless.h"
+
 static int write_all(int file, const uint8_t *bytes, size_t size)
 {
     size_t done = 0;
@@ -39,6 +41,17 @@ static int give_name(const char *temporary, const char *path)
     return rename(temporary, path) == 0 ? 0 : errno;
 }
 
+static int write_nameless(int file, const char *path, const uint8_t *bytes, size_t size)
+{
+    int error = write_all(file, bytes, size);
+
+    if (!error)
+        error = nameless_link(file, path);
+    if (close(file) != 0 && !error)
+        error = errno;
+    return error;
+}
+
 static int write_as(char *temporary, const char *path, const uint8_t *bytes, size_t size)
 {
     mode_t mask = umask(0);
@@ -63,9 +76,11 @@ bool new_file_write(const char *path, const uint8_t *bytes, size_t size, char *m
     static const char ending[] = ".XXXXXX";
     struct stat status;
     char *temporary;
-    int error = EEXIST;
+    int error = EEXIST, file;
 
-    if (lstat(path, &status) != 0) {
+    if (lstat(path, &status) != 0 && (file = nameless_open(path)) >= 0) {
+        error = write_nameless(file, path, bytes, size);
+    } else if (lstat(path, &status) != 0) {
         temporary = (char *)malloc(strlen(path) + sizeof ending);
         error = ENOMEM;
         if (temporary) {

@@ -7,8 +7,9 @@
 #include <stdint.h>
 
 /*
- * Writes the bytes under a temporary name in the same folder, syncs, and gives
- * the file its name, which must be free. False leaves a message and no file.
+ * Writes the bytes to a file without a name, or under a temporary one in the
+ * same folder where there is no such, syncs, and gives the file its name, which
+ * must be free. False leaves a message and no file.
  */
 bool new_file_write(const char *path, const uint8_t *bytes, size_t size, char *message, size_t message_size);
 

@@ -9,6 +9,8 @@
 #include <sys/stat.h>
 #include <unistd.h>
 
+#include "nameless.h"
+
 static bool fail(struct page_file *page, const char *why)
 {
     page->why = why;
@@ -55,23 +57,43 @@ static const char *refusal(const char *path, const char *mark, mode_t *mode)
     return ours ? NULL : "it is there already and holds something else";
 }
 
-/* A new file beside the one that it becomes, so that it can be renamed. */
-static int create_beside(struct page_file *page)
+/* A name beside the one that the file gets, so that it can be renamed: the attempt-th. */
+static char *beside(struct page_file *page, unsigned attempt)
 {
     size_t room = strlen(page->path) + 40;
-    unsigned attempt;
-    int number = -1;
 
-    page->temporary = (char *)malloc(room);
     if (!page->temporary)
-        return -1;
-    for (attempt = 0; attempt < 100 && number < 0; attempt++) {
+        page->temporary = (char *)malloc(room);
+    if (page->temporary)
         snprintf(page->temporary, room, "%s.%ld-%u.tmp", page->path, (long)getpid(), attempt);
+    return page->temporary;
+}
+
+/* A new file, without a name until it is whole where there is such. */
+static int create_beside(struct page_file *page)
+{
+    unsigned attempt;
+    int number = nameless_open(page->path);
+
+    page->nameless = number >= 0;
+    for (attempt = 0; attempt < 100 && number < 0 && beside(page, attempt); attempt++) {
         number = open(page->temporary, O_WRONLY | O_CREAT | O_EXCL | O_CLOEXEC, 0666);
         if (number < 0 && errno != EEXIST)
             break;
     }
     return number;
+}
+
+/* Names a file that has none; true if it has one now. */
+static bool name_it(struct page_file *page)
+{
+    unsigned attempt;
+    int error = page->nameless ? EEXIST : 0;
+
+    for (attempt = 0; attempt < 100 && error == EEXIST; attempt++)
+        error = beside(page, attempt) ? nameless_link(fileno(page->file), page->temporary) : ENOMEM;
+    errno = error;
+    return error == 0;
 }
 
 bool page_create(struct page_file *page, const char *path, const char *mark)
@@ -93,7 +115,8 @@ bool page_create(struct page_file *page, const char *path, const char *mark)
     if (!page->file) {
         why = strerror(errno);
         close(number);
-        unlink(page->temporary);
+        if (page->temporary)
+            unlink(page->temporary);
         return fail(page, why);
     }
     return true;
@@ -101,7 +124,7 @@ bool page_create(struct page_file *page, const char *path, const char *mark)
 
 bool page_finish(struct page_file *page)
 {
-    bool done = !ferror(page->file) && fflush(page->file) == 0 && fsync(fileno(page->file)) == 0;
+    bool done = !ferror(page->file) && fflush(page->file) == 0 && fsync(fileno(page->file)) == 0 && name_it(page);
     int error = done ? 0 : errno;
 
     if (fclose(page->file) != 0 && done) {
@@ -112,7 +135,7 @@ bool page_finish(struct page_file *page)
         done = false;
         error = errno;
     }
-    if (!done)
+    if (!done && page->temporary)
         unlink(page->temporary);
     fail(page, done ? NULL : strerror(error ? error : EIO));
     return done;

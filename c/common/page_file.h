@@ -7,7 +7,8 @@
 
 struct page_file {
     FILE *file;
-    char *path, *temporary; /* what it becomes, and its name until then */
+    char *path, *temporary; /* what it becomes, and its name until then, if it has one */
+    bool nameless;          /* it has none */
     const char *why;        /* after a failure */
 };
 

@@ -35,6 +35,8 @@ const char *record_pump(const uint8_t *block, struct pump_record *pump)
         return "bytes behind 12 are not zero";
     if (pump->starts == 0 && !zeros(block, 4, 13))
         return "no starts, but seconds";
+    if (pump->seconds > pump->second)
+        return "more run seconds than its clock has counted";
     return NULL;
 }
 

@@ -17,23 +17,28 @@ const uint8_t *rule_slot(const struct rule_log *log, size_t slot)
     return log->bytes + 64 + 512 * slot;
 }
 
+/* Up to 64 bytes. */
 static bool all_zero(const uint8_t *bytes, size_t size)
 {
-    while (size > 0)
-        if (bytes[--size])
-            return false;
-    return true;
+    static const uint8_t zeros[64] = {0};
+
+    return memcmp(bytes, zeros, size) == 0;
 }
 
-/* Zeros, whatever the turn bits. */
+/* Zeros, whatever the turn bit. */
+static bool is_blank_block(const uint8_t *block)
+{
+    return all_zero(block, 63) && !(block[63] & 0x7F);
+}
+
 static bool is_blank(const uint8_t *group)
 {
-    size_t end;
+    size_t at;
 
     if (!all_zero(group, 64))
         return false;
-    for (end = 128; end <= 512; end += 64)
-        if (!all_zero(group + end - 64, 63) || (group[end - 1] & 0x7F))
+    for (at = 64; at < 512; at += 64)
+        if (!is_blank_block(group + at))
             return false;
     return true;
 }
@@ -54,11 +59,27 @@ enum slot_kind rule_slot_kind(const struct rule_log *log, size_t slot)
     return number - log->start < log->groups ? SLOT_VALID : SLOT_BEYOND;
 }
 
+size_t rule_loose(const struct rule_log *log, size_t slot)
+{
+    enum slot_kind kind = rule_slot_kind(log, slot);
+    const uint8_t *group = rule_slot(log, slot);
+    uint64_t turn = rule_number(group + 2, 6) / log->groups % 2; /* of the trimmed group's own blocks */
+    size_t at, count = 0;
+
+    if (kind != SLOT_PART && (kind != SLOT_TRIMMED || log->older))
+        return 0;
+    for (at = 64; at < 512; at += 64)
+        count += !is_blank_block(group + at) && (kind == SLOT_PART || group[at + 63] >> 7 != turn);
+    return count;
+}
+
 bool rule_present(const struct rule_log *log, uint64_t position)
 {
-    size_t slot = (size_t)(position / 7 % log->groups);
+    uint64_t number = position / 7;
+    const uint8_t *group = rule_slot(log, (size_t)(number % log->groups));
 
-    return rule_slot_kind(log, slot) == SLOT_VALID && rule_number(rule_slot(log, slot) + 2, 6) == position / 7;
+    return number >= log->start && number - log->start < log->groups && group[0] == 0x50 && group[1] == 0x47
+        && rule_number(group + 2, 6) == number;
 }
 
 /* Why a tag reads as nothing; null if it reads as an entry. */

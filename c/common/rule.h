@@ -61,6 +61,9 @@ uint64_t rule_number(const uint8_t *bytes, size_t width);
 const uint8_t *rule_slot(const struct rule_log *log, size_t slot);
 enum slot_kind rule_slot_kind(const struct rule_log *log, size_t slot);
 
+/* Data blocks in a slot without a valid group that are there while their own group's number is not: what a cut left of a write. */
+size_t rule_loose(const struct rule_log *log, size_t slot);
+
 /* A ring slot that no group has been written to, in a log with this start: 512 bytes. */
 void rule_unused(size_t groups, uint64_t start, size_t slot, uint8_t *group);
 

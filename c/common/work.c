@@ -5,8 +5,6 @@
 #include <stdlib.h>
 #include <string.h>
 
-#include "image_file.h"
-
 static bool say(struct work *work, const char *format, ...)
 {
     va_list arguments;
@@ -15,15 +13,6 @@ static bool say(struct work *work, const char *format, ...)
     vsnprintf(work->message, sizeof work->message, format, arguments);
     va_end(arguments);
     return false;
-}
-
-static bool is_dump(const char *path)
-{
-    struct image_file file;
-    bool dump = image_file_read(&file, path, 0, IMAGE_FILE_IN_USE) && file.dump;
-
-    image_file_free(&file);
-    return dump;
 }
 
 static bool open_store(struct work *work, const char *path)
@@ -37,19 +26,25 @@ static bool open_store(struct work *work, const char *path)
     code = kgt_init(&work->store, work->memory, size, work->file.groups, work->file.homes, kgt_file_driver(&work->file)).code;
     if (code == KAGUTIN_DONE)
         code = kgt_open(&work->store).code;
-    if (code == KAGUTIN_WORN_OUT)
-        return say(work, "%s: worn out; 'kagutin export' and 'kagutin import' carry its homes into a new image", path);
     return code == KAGUTIN_DONE || say(work, "%s: cannot be opened: %s", path, kgt_answer_text(code));
+}
+
+bool work_try(struct copy *copy, const char *path)
+{
+    if (!copy_open(copy, path, 0))
+        return false;
+    if (!copy->dump)
+        return true;
+    copy_close(copy);
+    snprintf(copy->message, sizeof copy->message,
+             "%.200s: a dump of a serial FRAM is not changed in place; 'kagutin convert' makes an image of it, and a dump again",
+             path);
+    return false;
 }
 
 bool work_open(struct work *work, const char *path)
 {
     memset(work, 0, sizeof *work);
-    if (is_dump(path))
-        return say(work,
-                   "%s: a dump of a serial FRAM is not changed in place; 'kagutin convert' makes an image of it, and a dump "
-                   "again",
-                   path);
     if (!kgt_file_open(&work->file, path))
         return say(work, "%s", work->file.message);
     if (open_store(work, path))

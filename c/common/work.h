@@ -2,6 +2,7 @@
 #ifndef COMMON_WORK_H
 #define COMMON_WORK_H
 
+#include "copy.h"
 #include "kagutin_file.h"
 #include "kagutin_rights.h"
 
@@ -12,7 +13,14 @@ struct work {
     char message[400];
 };
 
-/* Opens file and store, which writes to the image as every opening does; false leaves a message. A dump is not changed in place. */
+/*
+ * Opens a copy of an image to try a change on. Opening the image itself writes
+ * to it, so a change that the copy refuses leaves the file byte for byte as it
+ * is. False leaves a message; a dump is not changed in place.
+ */
+bool work_try(struct copy *copy, const char *path);
+
+/* Opens file and store, which writes to the image as every opening does; false leaves a message. */
 bool work_open(struct work *work, const char *path);
 void work_close(struct work *work);
 

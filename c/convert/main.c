@@ -9,12 +9,13 @@
 #include "common/new_file.h"
 #include "kagutin/programs.h"
 
-enum { HEADER = 64, MOST_CHIP = 16777216 };
+enum { HEADER = 64 };
 
 static const char help[] =
     "usage: kagutin convert [--to KIND] [--base N] [--size N] FROM TO\n"
     "Makes an image from a raw dump of a serial FRAM, or a dump from an image. Log and homes stay byte for byte as they\n"
-    "are; the header of a dump stands in it twice, and the newer whole copy counts. TO must be a free name.\n"
+    "are; the header of a dump stands in it twice, and the newer whole copy counts; a dump that is made has it in both.\n"
+    "TO must be a free name.\n"
     "  --to KIND  image or dump (the kind that FROM is not)\n"
     "  --base N   where the store begins in the dump, 0 to 16777215 (0)\n"
     "  --size N   bytes of the dump that is made, up to 16777216: FF before and behind the store (as many as it needs)\n"
@@ -34,10 +35,10 @@ static struct options read_options(int count, char **words)
     for (i = 1; i < count; i++) {
         if (strcmp(words[i], "--to") == 0)
             options.to = command_value("--to", words[++i]);
-        else if (strcmp(words[i], "--base") == 0)
-            options.base = command_number("--base", words[++i], 0, MOST_CHIP - 1);
+        else if (command_base(words[i], words[i + 1], &options.base))
+            i++;
         else if (strcmp(words[i], "--size") == 0)
-            options.size = command_number("--size", words[++i], 1, MOST_CHIP);
+            options.size = command_number("--size", words[++i], 1, COMMAND_MOST_CHIP);
         else if (command_option(words[i]))
             continue;
         else if (given == 2)
@@ -81,8 +82,7 @@ int convert_main(int count, char **words)
 
     command_start("convert", help);
     options = read_options(count, words);
-    if (!homes_read(&homes, options.paths[0], 0, false)
-        && (!options.base || !homes_read(&homes, options.paths[0], options.base, false)))
+    if (!homes_read(&homes, options.paths[0], options.base, false))
         command_quit(STATUS_TROUBLE, "%s", homes.message);
     to_dump = options.to ? strcmp(options.to, "dump") == 0 : !homes.dump;
     store = size = HEADER + 512 * homes.groups + 64 * homes.homes;

@@ -6,6 +6,7 @@
 
 #include <errno.h>
 #include <fcntl.h>
+#include <stdio.h>
 #include <stdlib.h>
 #include <string.h>
 #include <sys/file.h>
@@ -15,6 +16,13 @@
 #include <sys/syscall.h>
 #endif
 #include <unistd.h>
+
+/* How a file without a name is opened, where the system has such. */
+#if defined(O_TMPFILE)
+#define NAMELESS O_TMPFILE
+#elif defined(__O_TMPFILE)
+#define NAMELESS __O_TMPFILE
+#endif
 
 static void clear(struct kgt_file *file)
 {
@@ -116,17 +124,23 @@ static bool give_name(struct kgt_file *file, const char *temporary, const char *
     return kgt_file_say(file, "%s: cannot be created: %s", path, strerror(errno));
 }
 
-/* Makes the new name in its folder durable. The path is cut to the folder's. */
-static bool sync_folder(struct kgt_file *file, char *path)
+/* Cuts a path to its folder. */
+static const char *cut_to_folder(char *path)
 {
     char *slash = strrchr(path, '/');
-    const char *name = slash ? path : ".";
-    int folder;
-    bool done;
 
     if (slash)
         slash[slash == path] = '\0';
-    folder = open(name, O_RDONLY | O_DIRECTORY | O_CLOEXEC);
+    return slash ? path : ".";
+}
+
+/* Makes the new name in its folder durable. The path is cut to the folder's. */
+static bool sync_folder(struct kgt_file *file, char *path)
+{
+    const char *name = cut_to_folder(path);
+    int folder = open(name, O_RDONLY | O_DIRECTORY | O_CLOEXEC);
+    bool done;
+
     if (folder < 0)
         return kgt_file_say(file, "%s: cannot be opened: %s", name, strerror(errno));
     done = fsync(folder) == 0 || errno == EINVAL; /* EINVAL: the file system has no such sync */
@@ -136,16 +150,49 @@ static bool sync_folder(struct kgt_file *file, char *path)
     return done;
 }
 
+/* A file that has no name until it is whole, so that a killed program leaves none; -1 if system or file system has no such. */
+static int open_nameless(char *path)
+{
+#ifdef NAMELESS
+    char *slash = strrchr(path, '/'), after = slash ? slash[slash == path] : '\0';
+    const char *folder = cut_to_folder(path);
+    int descriptor = access("/proc/self/fd", X_OK) == 0 ? open(folder, NAMELESS | O_RDWR | O_CLOEXEC, 0600) : -1;
+
+    if (slash)
+        slash[slash == path] = after;
+    return descriptor;
+#else
+    (void)path;
+    return -1;
+#endif
+}
+
+static bool name_nameless(struct kgt_file *file, const char *path)
+{
+    char own[40];
+
+    snprintf(own, sizeof own, "/proc/self/fd/%d", file->descriptor);
+    if (linkat(AT_FDCWD, own, AT_FDCWD, path, AT_SYMLINK_FOLLOW) == 0)
+        return true;
+    if (errno == EEXIST)
+        return kgt_file_say(file, "%s: exists already", path);
+    return kgt_file_say(file, "%s: cannot be created: %s", path, strerror(errno));
+}
+
 static bool create_as(struct kgt_file *file, char *temporary, const char *path)
 {
-    bool done;
+    bool named, done;
 
-    file->descriptor = mkstemp(temporary);
+    file->descriptor = open_nameless(temporary);
+    named = file->descriptor < 0;
+    if (named)
+        file->descriptor = mkstemp(temporary);
     if (file->descriptor < 0)
         return kgt_file_say(file, "%s: cannot be created: %s", path, strerror(errno));
     fcntl(file->descriptor, F_SETFD, FD_CLOEXEC);
-    done = take_lock(file, path) && fill(file, path) && give_name(file, temporary, path);
-    unlink(temporary);
+    done = take_lock(file, path) && fill(file, path) && (named ? give_name(file, temporary, path) : name_nameless(file, path));
+    if (named)
+        unlink(temporary);
     return done && sync_folder(file, temporary);
 }
 
@@ -237,6 +284,24 @@ bool kgt_file_open(struct kgt_file *file, const char *path)
         return kgt_file_say(file, "%s: cannot be opened for writing: %s", path, strerror(errno));
     if (open_image(file, path))
         return true;
+    kgt_file_close(file);
+    return false;
+}
+
+bool kgt_file_open_or_create(struct kgt_file *file, const char *path, size_t groups, size_t homes)
+{
+    struct stat status;
+
+    if (stat(path, &status) != 0 && kgt_file_create(file, path, groups, homes))
+        return true;
+    if (stat(path, &status) != 0) /* there is none, and the message says why none could be made */
+        return false;
+    if (!kgt_file_open(file, path))
+        return false;
+    if (file->groups == groups && file->homes == homes)
+        return true;
+    kgt_file_say(file, "%s: an image of another shape: %lu groups and %lu homes, not %lu and %lu", path,
+                 (unsigned long)file->groups, (unsigned long)file->homes, (unsigned long)groups, (unsigned long)homes);
     kgt_file_close(file);
     return false;
 }

@@ -13,18 +13,10 @@ static struct kgt_file file;
 /* Makes the image if there is none, and brings back what persisted. */
 static bool open_store(const char *path)
 {
-    char why[sizeof file.message];
     uint64_t code;
 
-    if (!kgt_file_create(&file, path, GROUPS, HOMES)) {
-        memcpy(why, file.message, sizeof why);
-        if (!kgt_file_open(&file, path)) {
-            fprintf(stderr, "quickstart: %s\nquickstart: %s\n", why, file.message);
-            return false;
-        }
-    }
-    if (file.groups != GROUPS || file.homes != HOMES) {
-        fprintf(stderr, "quickstart: %s: another program's image, with other numbers of groups and homes\n", path);
+    if (!kgt_file_open_or_create(&file, path, GROUPS, HOMES)) {
+        fprintf(stderr, "quickstart: %s\n", file.message);
         return false;
     }
     code = kgt_init(&store, memory, sizeof memory, GROUPS, HOMES, kgt_file_driver(&file)).code;

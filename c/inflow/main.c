@@ -26,8 +26,7 @@ static const char help[] =
     "  --pumped VOLUME    what was pumped in between: LOW..HIGH or one value, in cm² × mm, 0 to 4294967295 (0);\n"
     "                     10000 are one litre\n"
     "  -h, --help, --version\n"
-    "Status: 0 done, 1 a range has its low end above its high end, or the area is out of range, 2 wrong options,\n"
-    "3 the output cannot be written.\n";
+    "Status: 0 done, 1 a range has its low end above its high end, 2 wrong options, 3 the output cannot be written.\n";
 
 /* One whole number from 0 to `most`, up to where `end` then points. */
 static uint64_t read_number(const char *what, const char *text, const char **end, uint64_t most)
@@ -38,7 +37,7 @@ static uint64_t read_number(const char *what, const char *text, const char **end
     errno = 0;
     number = strtoull(text, &rest, 10);
     if (text[0] < '0' || text[0] > '9' || errno || number > most)
-        command_quit(STATUS_USAGE, "%s: whole numbers from 0 to %" PRIu64 " are expected, not '%s'", what, most, text);
+        command_quit(STATUS_USAGE, "%s takes whole numbers from 0 to %" PRIu64 ", not '%s'", what, most, text);
     *end = rest;
     return number;
 }
@@ -52,20 +51,8 @@ static struct range read_range(const char *what, const char *text, uint64_t most
     if (strncmp(end, "..", 2) == 0)
         range.high = read_number(what, end + 2, &end, most);
     if (*end)
-        command_quit(STATUS_USAGE, "%s: LOW..HIGH or one value is expected, not '%s'", what, text);
+        command_quit(STATUS_USAGE, "%s takes LOW..HIGH or one value, not '%s'", what, text);
     return range;
-}
-
-static uint64_t read_area(const char *text)
-{
-    unsigned long long area;
-    char *end;
-
-    errno = 0;
-    area = strtoull(text, &end, 10);
-    if (text[0] < '0' || text[0] > '9' || *end || errno)
-        command_quit(STATUS_USAGE, "--area: a whole number from 1 to %d is expected, not '%s'", KAGUTIN_MAX_AREA, text);
-    return area;
 }
 
 static struct options read_options(int count, char **words)
@@ -76,8 +63,7 @@ static struct options read_options(int count, char **words)
 
     for (i = 1; i < count; i++) {
         if (strcmp(words[i], "--area") == 0) {
-            i++;
-            options.area = read_area(command_value("--area", words[i]));
+            options.area = command_number("--area", words[++i], 1, KAGUTIN_MAX_AREA);
             has_area = 1;
         } else if (strcmp(words[i], "--pumped") == 0) {
             i++;
@@ -126,8 +112,6 @@ int inflow_main(int count, char **words)
                        (uint16_t)options.after.high, (uint32_t)options.pumped.low, (uint32_t)options.pumped.high);
 
     if (bounds.code) {
-        if (options.area == 0 || options.area > KAGUTIN_MAX_AREA)
-            command_quit(STATUS_REFUSED, "the area is from 1 to %d cm², not %" PRIu64, KAGUTIN_MAX_AREA, options.area);
         refuse_range("depth before", options.before);
         refuse_range("depth after", options.after);
         refuse_range("pumped volume", options.pumped);

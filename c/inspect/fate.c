@@ -13,6 +13,7 @@ const char *fate_text(enum fate fate)
     case FATE_OPEN: return "will not come back: no closing entry, its transaction was open or aborted";
     case FATE_INCOMPLETE: return "will not come back: entries of its transaction are missing";
     case FATE_LINK: return "will not come back: its transaction does not follow the last commit";
+    case FATE_NOT_KNOWN: return "not known whether it comes back: slots of the log were not read";
     default: return "will not come back: its transaction closes after the walk has stopped";
     }
 }
@@ -43,9 +44,15 @@ static void mark_commits(struct fates *fates, const struct image *image, const s
     }
 }
 
-/* The fate of a transaction that is not committed, by where it closes. */
-static enum fate fate_at(const struct rule_walk *walk, uint64_t closing)
+/* The fate of a transaction that is not committed, by 1 + where it closes, or 0. */
+static enum fate fate_at(const struct image *image, const struct rule_walk *walk, uint64_t next)
 {
+    uint64_t closing = next - 1;
+
+    if (image->slots_read < image->log.groups)
+        return FATE_NOT_KNOWN;
+    if (next == 0)
+        return FATE_OPEN;
     if (closing != walk->failed.closing)
         return FATE_AFTER;
     return walk->stop == STOP_LINK ? FATE_LINK : FATE_INCOMPLETE;
@@ -54,6 +61,7 @@ static enum fate fate_at(const struct rule_walk *walk, uint64_t closing)
 bool fates_find(struct fates *fates, const struct image *image, const struct rule_walk *walk)
 {
     uint64_t base = 7 * image->log.start, size = 7 * image->log.groups, offset;
+    size_t slot;
     uint64_t *closing = calloc((size_t)size, sizeof *closing); /* by first position: 1 + the next closing one */
 
     fates->entries = calloc((size_t)size, sizeof *fates->entries);
@@ -77,10 +85,12 @@ bool fates_find(struct fates *fates, const struct image *image, const struct rul
         next = &closing[offset - tag.back];
         if (tag.kind == TAG_CLOSING)
             *next = base + offset + 1;
-        fates->entries[offset] = *next ? fate_at(walk, *next - 1) : FATE_OPEN;
+        fates->entries[offset] = fate_at(image, walk, *next);
         fates->others++;
     }
     free(closing);
+    for (slot = 0; slot < image->slots_read; slot++)
+        fates->torn += rule_loose(&image->log, slot);
     mark_commits(fates, image, walk);
     fates->others -= fates->committed;
     return true;

@@ -9,10 +9,13 @@ static const char *const kinds[] = {"nothing", "entry", "closing"};
 
 static void print_hex(const uint8_t *bytes, size_t size)
 {
+    static const char digits[] = "0123456789abcdef";
     size_t i;
 
-    for (i = 0; i < size; i++)
-        printf("%02x", bytes[i]);
+    for (i = 0; i < size; i++) {
+        putchar(digits[bytes[i] >> 4]);
+        putchar(digits[bytes[i] & 15]);
+    }
 }
 
 /* Bytes of the UTF-8 sequence that begins here; 0 if none does. */
@@ -86,7 +89,7 @@ static void json_entry(const struct image *image, const struct fates *fates, uin
             printf(",\"entries\":%llu", (number)tag.count);
             json_link(tag.link, position);
         }
-        printf(",\"comes_back\":%s", fate == FATE_BACK ? "true" : "false");
+        printf(",\"comes_back\":%s", fate == FATE_BACK ? "true" : fate == FATE_NOT_KNOWN ? "null" : "false");
         if (fate != FATE_BACK) {
             fputs(",\"why\":", stdout);
             json_string(fate_text(fate));
@@ -108,6 +111,8 @@ static void json_slot(const struct image *image, const struct fates *fates, size
 
     printf("%s\n  {\"slot\":%lu,", slot ? "," : "", (unsigned long)slot);
     if (hole) {
+        if (slot < image->slots_read && rule_loose(&image->log, slot))
+            printf("\"torn\":%lu,", (unsigned long)rule_loose(&image->log, slot));
         fputs("\"hole\":", stdout);
         json_string(hole);
     } else {
@@ -161,7 +166,7 @@ static void json_home(const struct image *image, const struct fates *fates, size
     putchar('}');
 }
 
-/* The homes that the file has or the log gives, and what those with an owner hold. */
+/* The homes that are known, and what those with an owner hold. */
 static void json_homes(const struct image *image, const struct fates *fates)
 {
     bool comma = false;
@@ -169,7 +174,7 @@ static void json_homes(const struct image *image, const struct fates *fates)
 
     fputs("\"homes\":[", stdout);
     for (i = 0; i < image->log.homes; i++)
-        if (image_has_home(image, fates, i))
+        if (image_knows(image, fates, i, 1))
             json_home(image, fates, i, &comma);
     fputs("],\n ", stdout);
     json_units(image, fates);
@@ -177,30 +182,37 @@ static void json_homes(const struct image *image, const struct fates *fates)
     json_rights(image, fates);
 }
 
-void print_json(const struct image *image, const struct rule_walk *walk, const struct fates *fates)
+static void json_header(const struct image *image, const struct fates *fates)
 {
-    static const char *const stops[] = {"end", "incomplete", "link"};
+    static const char *const others[] = {"older", "same", "unwritten", "torn"};
     const struct rule_log *log = &image->log;
-    char stop[200];
-    size_t i;
+    size_t missing = 7 * (log->groups - image->slots_read);
 
     fputs("{\"image\":", stdout);
     json_string(image->path);
-    printf(",\"bytes\":%llu,\"dump\":%s,\n "
-           "\"header\":{\"fits\":%s,\"start\":%llu,\"start_from\":\"%s\",\"groups\":%lu,\"homes\":%lu,"
-           "\"worn_out\":%s},\n \"places\":{\"committed\":%lu,\"others\":%lu,\"torn\":%lu,\"unused\":%lu},\n \"slots\":[",
-           (number)image->file_size, image->dump ? image->copy ? "{\"header_at\":32}" : "{\"header_at\":0}" : "null",
+    printf(",\"bytes\":%llu,\"dump\":", (number)image->file_size);
+    if (image->dump)
+        printf("{\"base\":%llu,\"header_at\":%u,\"other_header\":\"%s\"}", (number)image->base, 32 * image->copy,
+               others[image->the_other]);
+    else
+        fputs("null", stdout);
+    fputs(",\n ", stdout);
+    json_not_read(image, fates);
+    printf("\n \"header\":{\"fits\":%s,\"start\":%llu,\"start_from\":\"%s\",\"groups\":%lu,\"homes\":%lu,\"worn_out\":%s},\n "
+           "\"places\":{\"committed\":%lu,\"others\":%lu,\"torn\":%lu,\"unused\":%lu,\"not_read\":%lu},\n ",
            image->header_fits ? "true" : "false", (number)log->start, image->start_from, (unsigned long)log->groups,
            (unsigned long)log->homes, image_worn_out(image) ? "true" : "false", (unsigned long)fates->committed,
            (unsigned long)fates->others, (unsigned long)fates->torn,
-           (unsigned long)(7 * log->groups - fates->committed - fates->others - fates->torn));
-    for (i = 0; i < log->groups; i++)
-        json_slot(image, fates, i);
-    fputs("],\n \"commits\":[", stdout);
-    for (i = 0; i < walk->commit_count; i++)
-        json_commit(image, &walk->commits[i], i);
-    describe_stop(walk, stop, sizeof stop);
-    printf("],\n \"stop\":{\"kind\":\"%s\",\"position\":", stops[walk->stop]);
+           (unsigned long)(7 * log->groups - fates->committed - fates->others - fates->torn - missing), (unsigned long)missing);
+}
+
+static void json_stop(const struct image *image, const struct rule_walk *walk)
+{
+    static const char *const stops[] = {"end", "incomplete", "link"};
+    char stop[200];
+
+    describe_stop(image, walk, stop, sizeof stop);
+    printf("\"stop\":{\"kind\":\"%s\",\"position\":", stops[walk->stop]);
     if (walk->stop == STOP_END)
         fputs("null", stdout);
     else
@@ -208,6 +220,21 @@ void print_json(const struct image *image, const struct rule_walk *walk, const s
     fputs(",\"why\":", stdout);
     json_string(stop);
     printf(",\"unreached\":%lu},\n ", (unsigned long)walk->unreached);
+}
+
+void print_json(const struct image *image, const struct rule_walk *walk, const struct fates *fates)
+{
+    size_t i;
+
+    json_header(image, fates);
+    fputs("\"slots\":[", stdout);
+    for (i = 0; i < image->log.groups; i++)
+        json_slot(image, fates, i);
+    fputs("],\n \"commits\":[", stdout);
+    for (i = 0; i < walk->commit_count; i++)
+        json_commit(image, &walk->commits[i], i);
+    fputs("],\n ", stdout);
+    json_stop(image, walk);
     json_homes(image, fates);
     fputs(",\n \"damage\":[", stdout);
     for (i = 0; i < image->note_count; i++) {

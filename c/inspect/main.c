@@ -14,16 +14,30 @@
 #include "kagutin/programs.h"
 
 static const char help[] =
-    "usage: kagutin inspect [--json] [--groups N] [--homes N] [--start N] IMAGE\n"
+    "usage: kagutin inspect [--json] [--groups N] [--homes N] [--start N] [--base N] IMAGE\n"
     "Prints the header of an image, its groups and entries, which transactions the commit rule finds, each home's value as\n"
     "an opening would give it, and who may touch which home. Changes nothing.\n"
     "  --json      the same as JSON\n"
     "  --groups N  groups of the log, 4 to 1024, if the header is damaged\n"
     "  --homes N   home blocks, 1 to 65535 (default: as the header or the file's size says)\n"
     "  --start N   lowest live group number (default: the header's, or a guess from the groups)\n"
+    "  --base N    where the store begins in a dump (0)\n"
     "  -h, --help, --version\n"
     "IMAGE may also be a raw dump of a serial FRAM; of its two headers the newer whole one counts.\n"
-    "Status: 0 the image is sound, 1 it is damaged, 2 wrong options, 3 the file cannot be read.\n";
+    "Of a file that is cut off what was not read is told as such.\n"
+    "Status: 0 the image is sound, 1 it is damaged, or homes of bands, pumps or alarms hold something else, 2 wrong\n"
+    "options, 3 the file cannot be read.\n";
+
+void inspect_say(const char *format, ...)
+{
+    char message[512];
+    va_list arguments;
+
+    va_start(arguments, format);
+    vsnprintf(message, sizeof message, format, arguments);
+    va_end(arguments);
+    command_say("%s", message);
+}
 
 void inspect_quit(int status, const char *format, ...)
 {
@@ -38,7 +52,7 @@ void inspect_quit(int status, const char *format, ...)
 
 static struct options read_options(int count, char **words)
 {
-    struct options options = {NULL, false, NOT_GIVEN, NOT_GIVEN, NOT_GIVEN};
+    struct options options = {NULL, false, NOT_GIVEN, NOT_GIVEN, NOT_GIVEN, 0};
     int i;
 
     for (i = 1; i < count; i++) {
@@ -50,6 +64,8 @@ static struct options read_options(int count, char **words)
             options.homes = command_number("--homes", words[++i], 1, MAX_HOMES);
         else if (strcmp(words[i], "--start") == 0)
             options.start = command_number("--start", words[++i], 0, MAX_START);
+        else if (command_base(words[i], words[i + 1], &options.base))
+            i++;
         else if (command_option(words[i]))
             continue;
         else if (options.path)
@@ -71,7 +87,7 @@ int inspect_main(int count, char **words)
 
     command_start("inspect", help);
     options = read_options(count, words);
-    image_read(&image, options.path);
+    image_read(&image, &options);
     image_check_header(&image);
     image_choose_shape(&image, &options);
     image_check(&image);

@@ -10,6 +10,11 @@ static bool has_room(const struct image *image)
     return image->log.homes >= HOME + HOMES;
 }
 
+static bool is_known(const struct image *image, const struct fates *fates)
+{
+    return !has_room(image) || image_knows(image, fates, HOME, HOMES);
+}
+
 /* The 256 bytes of a list; false if there is none. */
 static bool find_list(const struct image *image, const struct fates *fates, uint8_t *list)
 {
@@ -64,6 +69,10 @@ void text_rights(const struct image *image, const struct fates *fates)
     uint8_t list[HOMES * BLOCK];
     size_t writer;
 
+    if (!is_known(image, fates)) {
+        puts("\nrights: not read, " NOT_READ);
+        return;
+    }
     if (!find_list(image, fates, list)) {
         printf("\nrights: no list, %s; only writer 0 stores to homes 8 to 11, the others are open to all\n", why_none(image));
         return;
@@ -98,6 +107,10 @@ void json_rights(const struct image *image, const struct fates *fates)
     uint8_t list[HOMES * BLOCK];
     size_t writer;
 
+    if (!is_known(image, fates)) {
+        fputs("{\"list\":null,\"not_read\":\"" NOT_READ "\"}", stdout);
+        return;
+    }
     if (!find_list(image, fates, list)) {
         printf("{\"list\":false,\"why\":\"%s\"}", why_none(image));
         return;

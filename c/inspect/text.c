@@ -6,6 +6,7 @@
 typedef unsigned long long number;
 
 static const char *const kinds[] = {"nothing", "entry", "closing"};
+static const char digits[] = "0123456789abcdef";
 
 /* A byte of a block as text: itself if it can be printed, else a dot. */
 static char printable(uint8_t byte)
@@ -98,8 +99,12 @@ static void text_home(const struct image *image, const struct fates *fates, size
             printf("  %5lu  ", (unsigned long)home);
         else
             printf("         ");
-        for (i = at; i < at + 16; i++)
-            printf(i % 4 == 0 ? " %02x" : "%02x", block[i]);
+        for (i = at; i < at + 16; i++) {
+            if (i % 4 == 0)
+                putchar(' ');
+            putchar(digits[block[i] >> 4]);
+            putchar(digits[block[i] & 15]);
+        }
         fputs("  ", stdout);
         for (i = at; i < at + 16; i++)
             putchar(printable(block[i]));
@@ -111,47 +116,79 @@ static void text_home(const struct image *image, const struct fates *fates, size
 
 static void text_homes(const struct image *image, const struct fates *fates)
 {
-    size_t home, zeros = 0;
+    size_t home, zeros = 0, known = 0;
     uint8_t block[64];
 
     for (home = 0; home < image->log.homes; home++) {
+        if (!image_knows(image, fates, home, 1))
+            continue;
         image_home(image, fates, home, block);
+        known++;
         zeros += used_size(block) == 0;
     }
-    printf("\nhomes (%lu, %lu of them zeros), as an opening leaves them; zeros at a block's end are left out\n",
-           (unsigned long)image->log.homes, (unsigned long)zeros);
+    printf("\nhomes (%lu, %lu of them zeros", (unsigned long)image->log.homes, (unsigned long)zeros);
+    if (known < image->log.homes)
+        printf(", %lu not read", (unsigned long)(image->log.homes - known));
+    puts("), as an opening leaves them; zeros at a block's end are left out");
     for (home = 0; home < image->log.homes; home++)
-        text_home(image, fates, home);
+        if (image_knows(image, fates, home, 1))
+            text_home(image, fates, home);
 }
 
-void print_text(const struct image *image, const struct rule_walk *walk, const struct fates *fates)
+/* The two copies of a dump's header, and what lies behind the store. */
+static void text_dump(const struct image *image)
+{
+    static const char *const others[] = {"older", "the same", "not written yet", "torn"};
+
+    if (!image->dump)
+        return;
+    fputs("dump    of a serial FRAM", stdout);
+    if (image->base)
+        printf(", from byte %llu on", (number)image->base);
+    printf(": the header's copy at %u counts, the one at %u is %s; %llu bytes behind are left out\n", 32 * image->copy,
+           32 * (1 - image->copy), others[image->the_other],
+           (number)(image->file_size > image->image_size ? image->file_size - image->image_size : 0));
+}
+
+static void text_header(const struct image *image, const struct fates *fates)
 {
     const struct rule_log *log = &image->log;
-    char stop[200];
-    size_t i;
+    size_t missing = 7 * (log->groups - image->slots_read);
 
     printf("image   %s, %llu bytes\n", image->path, (number)image->file_size);
-    if (image->dump)
-        printf("dump    of a serial FRAM: the header's copy at %u counts, the one at %u is %s; %llu bytes behind are left out\n",
-               32 * image->copy, 32 * (1 - image->copy), image->other_whole ? "older" : "not whole",
-               (number)(image->file_size > image->image_size ? image->file_size - image->image_size : 0));
+    text_dump(image);
+    text_not_read(image, fates);
     printf("header  %s; start %llu %s, %lu groups, %lu homes\n", image->header_fits ? "fits" : "DAMAGED", (number)log->start,
            image->start_from, (unsigned long)log->groups, (unsigned long)log->homes);
     printf("live    groups %llu to %llu, positions %llu to %llu\n", (number)log->start, (number)(log->start + log->groups - 1),
            (number)(7 * log->start), (number)(7 * (log->start + log->groups) - 1));
     if (image_worn_out(image))
         puts("worn    out: an opening would move the start past 2^47 and is refused; homes as it would leave them");
-    printf("places  %lu: %lu with entries that come back, %lu with others, %lu torn, %lu unused\n\ngroups\n",
+    printf("places  %lu: %lu with entries that come back, %lu with others, %lu torn, %lu unused",
            (unsigned long)(7 * log->groups), (unsigned long)fates->committed, (unsigned long)fates->others,
-           (unsigned long)fates->torn, (unsigned long)(7 * log->groups - fates->committed - fates->others - fates->torn));
-    for (i = 0; i < image_slots(image); i++)
+           (unsigned long)fates->torn,
+           (unsigned long)(7 * log->groups - fates->committed - fates->others - fates->torn - missing));
+    if (missing)
+        printf(", %lu not read", (unsigned long)missing);
+    putchar('\n');
+}
+
+void print_text(const struct image *image, const struct rule_walk *walk, const struct fates *fates)
+{
+    char stop[200];
+    size_t i;
+
+    text_header(image, fates);
+    puts("\ngroups");
+    for (i = 0; i < image->slots_read; i++)
         text_slot(image, fates, i);
-    if (i < log->groups)
-        printf("  slots %lu to %lu  cut off by the end of the file\n", (unsigned long)i, (unsigned long)log->groups - 1);
-    printf("\ncommits (%lu)\n", (unsigned long)walk->commit_count);
+    if (i < image->log.groups)
+        printf("  slots %lu to %lu  not read, " NOT_READ "\n", (unsigned long)i, (unsigned long)image->log.groups - 1);
+    printf("\ncommits (%lu%s)\n", (unsigned long)walk->commit_count,
+           i < image->log.groups ? ", in the slots that were read" : "");
     for (i = 0; i < walk->commit_count; i++)
         text_commit(image, &walk->commits[i], i);
-    describe_stop(walk, stop, sizeof stop);
+    describe_stop(image, walk, stop, sizeof stop);
     printf("the walk stopped: %s\n", stop);
     if (walk->unreached)
         printf("closing entries after that: %lu\n", (unsigned long)walk->unreached);

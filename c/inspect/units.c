@@ -7,30 +7,54 @@
 
 enum { BLOCK = 64, MOST_HOMES = 6 };
 
-/* The blocks of homes with an owner; false if the image has not all of them. */
-static bool find(const struct image *image, const struct fates *fates, size_t first, size_t number, uint8_t *blocks)
+/* The blocks of homes with an owner. */
+enum found { FOUND, TOO_FEW, UNKNOWN };
+
+static enum found find(const struct image *image, const struct fates *fates, size_t first, size_t number, uint8_t *blocks)
 {
     size_t i;
 
     if (image->log.homes < first + number)
-        return false;
+        return TOO_FEW;
+    if (!image_knows(image, fates, first, number))
+        return UNKNOWN;
     for (i = 0; i < number; i++)
         image_home(image, fates, first + i, blocks + BLOCK * i);
-    return true;
+    return FOUND;
 }
 
-void units_check(struct image *image, const struct fates *fates)
+static void check_seals(struct image *image, const struct fates *fates)
 {
     uint8_t block[BLOCK];
     size_t home;
 
     for (home = 0; home < image->log.homes; home++) {
-        if (!image_has_home(image, fates, home))
+        if (!image_knows(image, fates, home, 1))
             continue;
         image_home(image, fates, home, block);
         if (record_seal_broken(home, block))
             image_note(image, "home %lu: sealed, and its checksum does not fit", (unsigned long)home);
     }
+}
+
+void units_check(struct image *image, const struct fates *fates)
+{
+    uint8_t blocks[BLOCK * MOST_HOMES];
+    struct alarms_record alarms;
+    struct bands_record bands;
+    struct pump_record pump;
+    const char *why;
+    size_t i;
+
+    check_seals(image, fates);
+    if (find(image, fates, RECORD_BANDS_HOME, RECORD_BANDS_HOMES, blocks) == FOUND && (why = record_bands(blocks, &bands)))
+        image_note(image, "homes 12 to 14: no table of depth bands: %s", why);
+    for (i = 0; i < RECORD_PUMPS; i++)
+        if (find(image, fates, RECORD_PUMP_HOME + i, 1, blocks) == FOUND && (why = record_pump(blocks, &pump)))
+            image_note(image, "home %lu: no record of pump %lu: %s", (unsigned long)(RECORD_PUMP_HOME + i), (unsigned long)i,
+                       why);
+    if (find(image, fates, RECORD_ALARMS_HOME, RECORD_ALARMS_HOMES, blocks) == FOUND && (why = record_alarms(blocks, &alarms)))
+        image_note(image, "homes 24 to 29: no list of alarms: %s", why);
 }
 
 /* ---- text ---- */
@@ -58,10 +82,13 @@ static void text_pumps(const struct image *image, const struct fates *fates)
     size_t i;
 
     puts("\npumps, homes 16 to 23");
-    for (i = 0; i < RECORD_PUMPS && find(image, fates, RECORD_PUMP_HOME + i, 1, block); i++) {
-        const char *why = record_pump(block, &pump);
+    for (i = 0; i < RECORD_PUMPS && RECORD_PUMP_HOME + i < image->log.homes; i++) {
+        bool known = find(image, fates, RECORD_PUMP_HOME + i, 1, block) == FOUND;
+        const char *why = known ? record_pump(block, &pump) : NULL;
 
-        if (why)
+        if (!known)
+            printf("  pump %lu  not read, " NOT_READ "\n", (unsigned long)i);
+        else if (why)
             printf("  pump %lu  ! home %lu holds no record of a pump: %s\n", (unsigned long)i,
                    (unsigned long)(RECORD_PUMP_HOME + i), why);
         else if (pump.starts == 0)
@@ -97,16 +124,27 @@ static void text_alarms(const uint8_t *blocks)
 void text_units(const struct image *image, const struct fates *fates)
 {
     uint8_t blocks[BLOCK * MOST_HOMES];
+    enum found found = find(image, fates, RECORD_BANDS_HOME, RECORD_BANDS_HOMES, blocks);
 
-    if (find(image, fates, RECORD_BANDS_HOME, RECORD_BANDS_HOMES, blocks))
+    if (found == FOUND)
         text_bands(blocks);
+    else if (found == UNKNOWN)
+        puts("\nbands: not read, " NOT_READ);
     if (image->log.homes > RECORD_PUMP_HOME)
         text_pumps(image, fates);
-    if (find(image, fates, RECORD_ALARMS_HOME, RECORD_ALARMS_HOMES, blocks))
+    found = find(image, fates, RECORD_ALARMS_HOME, RECORD_ALARMS_HOMES, blocks);
+    if (found == FOUND)
         text_alarms(blocks);
+    else if (found == UNKNOWN)
+        puts("\nalarms: not read, " NOT_READ);
 }
 
-/* ---- JSON: null where the image has no such homes, {"why":..} where they hold something else ---- */
+/* ---- JSON: null where the image has no such homes, {"why":..} where they hold something else, {"not_read":..} where that is not known ---- */
+
+static void json_missing(enum found found)
+{
+    fputs(found == UNKNOWN ? "{\"not_read\":\"" NOT_READ "\"}" : "null", stdout);
+}
 
 static void json_why(const char *why)
 {
@@ -136,11 +174,14 @@ static void json_pumps(const struct image *image, const struct fates *fates)
     size_t i;
 
     putchar('[');
-    for (i = 0; i < RECORD_PUMPS && find(image, fates, RECORD_PUMP_HOME + i, 1, block); i++) {
-        const char *why = record_pump(block, &pump);
+    for (i = 0; i < RECORD_PUMPS && RECORD_PUMP_HOME + i < image->log.homes; i++) {
+        enum found found = find(image, fates, RECORD_PUMP_HOME + i, 1, block);
+        const char *why = found == FOUND ? record_pump(block, &pump) : NULL;
 
         fputs(i ? ",\n  " : "\n  ", stdout);
-        if (why)
+        if (found != FOUND)
+            json_missing(found);
+        else if (why)
             json_why(why);
         else
             printf("{\"starts\":%lu,\"seconds\":%lu,\"second\":%lu,\"running\":%s}", (unsigned long)pump.starts,
@@ -174,17 +215,19 @@ static void json_alarms(const uint8_t *blocks)
 void json_units(const struct image *image, const struct fates *fates)
 {
     uint8_t blocks[BLOCK * MOST_HOMES];
+    enum found found = find(image, fates, RECORD_BANDS_HOME, RECORD_BANDS_HOMES, blocks);
 
     fputs("\"bands\":", stdout);
-    if (find(image, fates, RECORD_BANDS_HOME, RECORD_BANDS_HOMES, blocks))
+    if (found == FOUND)
         json_bands(blocks);
     else
-        fputs("null", stdout);
+        json_missing(found);
     fputs(",\n \"pumps\":", stdout);
     json_pumps(image, fates);
     fputs(",\n \"alarms\":", stdout);
-    if (find(image, fates, RECORD_ALARMS_HOME, RECORD_ALARMS_HOMES, blocks))
+    found = find(image, fates, RECORD_ALARMS_HOME, RECORD_ALARMS_HOMES, blocks);
+    if (found == FOUND)
         json_alarms(blocks);
     else
-        fputs("null", stdout);
+        json_missing(found);
 }

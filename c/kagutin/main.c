@@ -67,17 +67,36 @@ static bool is_flag(const struct program *program, const char *word, size_t size
     return false;
 }
 
+/* Words behind "--" are no options: a file's name that begins with '-' gets its folder. Free the names after use. */
+static char *take_names(char **words, int count, char **split, int *filled)
+{
+    size_t room = 1;
+    char *names, *at;
+    int i;
+
+    for (i = 0; i < count; i++)
+        room += strlen(words[i]) + 3;
+    names = at = (char *)malloc(room);
+    if (!names)
+        command_quit(STATUS_TROUBLE, "out of memory");
+    for (i = 0; i < count; i++) {
+        split[(*filled)++] = at;
+        at += sprintf(at, "%s%s", words[i][0] == '-' ? "./" : "", words[i]) + 1;
+    }
+    return names;
+}
+
 /* Cuts "--option=value" in two, and runs. */
 static int run(const struct program *program, int count, char **words)
 {
-    char **split = (char **)calloc(2 * (size_t)count + 1, sizeof *split);
+    char **split = (char **)calloc(2 * (size_t)count + 1, sizeof *split), *names = NULL;
     int i, status, filled = 0;
 
     command_start(program->name, "");
     if (!split)
         command_quit(STATUS_TROUBLE, "out of memory");
     split[filled++] = words[0];
-    for (i = 1; i < count; i++) {
+    for (i = 1; i < count && !(program->flags && strcmp(words[i], "--") == 0); i++) {
         size_t size = strcspn(words[i], "=");
         bool both = program->flags && strncmp(words[i], "--", 2) == 0 && words[i][size];
 
@@ -89,7 +108,10 @@ static int run(const struct program *program, int count, char **words)
         words[i][size] = '\0';
         split[filled++] = words[i] + size + 1;
     }
+    if (i < count)
+        names = take_names(words + i + 1, count - i - 1, split, &filled);
     status = program->run(filled, split);
+    free(names);
     free(split);
     return status;
 }

@@ -10,22 +10,26 @@
 #include "list_file.h"
 
 static const char help[] =
-    "usage: kagutin rights show IMAGE\n"
+    "usage: kagutin rights show [--base N] IMAGE\n"
     "       kagutin rights set IMAGE LIST.txt\n"
     "       kagutin rights clear IMAGE\n"
     "Which writer may store to which homes, and read them, as the list in homes 8 to 11 of an image.\n"
     "  show    prints the list as such a file; also of a raw dump of a serial FRAM\n"
     "  set     puts the list of a text file in, as one transaction: a power cut leaves this list or the one before\n"
     "  clear   takes the list away: every home but 8 to 11 is then open to all\n"
+    "  --base N   where the store begins in a dump (0)\n"
     "  -h, --help, --version\n"
-    "A line of the file is: W store HOMES, or W read HOMES, for a writer from 0 to 7; HOMES are up to four of HOME,\n"
+    "A set that is refused leaves the image as it is. A line of the file is: W store HOMES, or W read HOMES, for a writer from 0 "
+    "to 7; HOMES are up to four of HOME,\n"
     "FROM..TO or all. # begins a comment. A list that lets a writer touch no home is refused, unless a line says\n"
     "W nothing. All read homes 8 to 11, and only writer 0 stores there, whatever the list says.\n"
     "Status: 0 done, 1 the list is refused, or there is none, 2 wrong options, 3 a file cannot be read or written.\n";
 
+static uint64_t base;
+
 static void read_homes(struct homes *homes, const char *path)
 {
-    if (!homes_read(homes, path, 0, false))
+    if (!homes_read(homes, path, base, false))
         command_quit(STATUS_TROUBLE, "%s", homes->message);
     if (homes->homes < KGT_RIGHTS_HOME + KGT_RIGHTS_HOMES)
         command_quit(STATUS_REFUSED, "%s: a list takes homes 8 to 11; the image has %lu homes", path,
@@ -117,22 +121,32 @@ static void check(const struct list_file *file, const char *path, size_t homes)
                         (unsigned)(owned[i].first + owned[i].number - 1), owned[i].what);
 }
 
+static void quit_answer(const char *path, uint64_t code)
+{
+    command_quit(code < KGT_CLOSED ? STATUS_REFUSED : STATUS_TROUBLE, "%s: %s (answer %llu)", path, kgt_answer_text(code),
+                 (unsigned long long)code);
+}
+
+/* On a copy first: whatever refuses the list there leaves the image as it is. */
 static void store_list(const char *path, const struct kgt_rights *list, const char *what)
 {
-    struct kgt_ticket set;
-    struct kgt_mark mark;
+    uint64_t code;
+    struct copy copy;
     struct work work;
 
+    if (!work_try(&copy, path))
+        command_quit(STATUS_TROUBLE, "%s", copy.message);
+    code = kgt_set_rights(&copy.store, list).code;
+    copy_close(&copy);
+    if (code != KAGUTIN_DONE)
+        quit_answer(path, code);
     if (!work_open(&work, path))
         command_quit(STATUS_TROUBLE, "%s", work.message);
-    set = kgt_set_rights(&work.store, list);
-    if (set.code == KAGUTIN_DONE) {
-        mark = kgt_sync(&work.store);
-        set.code = mark.code;
-    }
-    if (set.code != KAGUTIN_DONE)
-        command_quit(set.code < KGT_CLOSED ? STATUS_REFUSED : STATUS_TROUBLE, "%s: %s (answer %llu)", path,
-                     kgt_answer_text(set.code), (unsigned long long)set.code);
+    code = kgt_set_rights(&work.store, list).code;
+    if (code == KAGUTIN_DONE)
+        code = kgt_sync(&work.store).code;
+    if (code != KAGUTIN_DONE)
+        quit_answer(path, code);
     printf("%s: %s, durable\n", path, what);
     work_close(&work);
 }
@@ -177,11 +191,14 @@ int rights_main(int count, char **words)
 
     command_start("rights", help);
     for (i = 1; i < count; i++) {
-        if (command_option(words[i]))
+        if (command_base(words[i], words[i + 1], &base))
+            i++;
+        else if (command_option(words[i]))
             continue;
-        if (given == 3)
+        else if (given == 3)
             command_quit(STATUS_USAGE, "one word too many: '%s'", words[i]);
-        parts[given++] = words[i];
+        else
+            parts[given++] = words[i];
     }
     if (given == 0)
         command_quit(STATUS_USAGE, "show, set or clear is expected");
@@ -191,6 +208,8 @@ int rights_main(int count, char **words)
         command_quit(STATUS_USAGE, "unknown command '%s'", parts[0]);
     if (given != commands[k].count)
         command_quit(STATUS_USAGE, "%s takes %s", commands[k].name, commands[k].needs);
+    if (base && k > 0)
+        command_quit(STATUS_USAGE, "--base is for show: a dump is not changed in place");
     commands[k].run(parts[1], parts[2]);
     return command_end(STATUS_DONE);
 }

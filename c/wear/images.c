@@ -3,63 +3,82 @@
 #include <string.h>
 #include <sys/stat.h>
 
-#include "common/copy.h"
-#include "kagutin_units.h"
+#include "common/records.h"
+#include "common/work.h"
+#include "kagutin_hours.h"
 #include "sheet.h"
 
-/* Bytes of a pump's home; docs/HOMES.md. */
-enum { LAST_EVENT = 8, RUNNING = 12 };
+/* Who reads the pumps of a station, and whom they are hidden from. */
+struct reader {
+    struct kgt_rights list;
+    uint64_t asked;  /* WEAR_ANY_WRITER: whoever has the right */
+    uint64_t able;   /* hidden from the writer that was asked for: the lowest that has the right, or KAGUTIN_WRITERS */
+    unsigned hidden; /* pumps that could not be read for want of a right */
+};
 
-static uint64_t number32(const uint8_t *bytes)
+/* The writer that reads a pump; KAGUTIN_WRITERS if none may. */
+static uint64_t reader_of(struct reader *reader, unsigned pump)
 {
-    return (uint64_t)bytes[0] | (uint64_t)bytes[1] << 8 | (uint64_t)bytes[2] << 16 | (uint64_t)bytes[3] << 24;
+    uint64_t able = work_reader(&reader->list, KAGUTIN_PUMP_HOME + pump, 1);
+
+    if (reader->asked == WEAR_ANY_WRITER)
+        return able;
+    if (work_may_read(&reader->list, reader->asked, KAGUTIN_PUMP_HOME + pump, 1))
+        return reader->asked;
+    if (reader->able == KAGUTIN_WRITERS)
+        reader->able = able;
+    return KAGUTIN_WRITERS;
 }
 
-/*
- * Whether a pump's home holds what the hours book stores: every block reads as a record, so another's would show as
- * hours. Runs lie apart on a clock that begins at 0, so that they cannot add up to more than the last event's second.
- */
-static bool is_record(const uint8_t *block, const struct wear_row *row)
+/* One pump into the sheet. A home that holds none of its records would show as hours. */
+static void read_pump(struct wear_sheet *sheet, struct copy *copy, struct reader *reader, size_t station, unsigned pump)
 {
-    size_t i;
-
-    for (i = RUNNING + 1; i < KAGUTIN_BLOCK_SIZE && block[i] == 0; i++)
-        ;
-    if (i < KAGUTIN_BLOCK_SIZE || block[RUNNING] > 1 || row->seconds > row->second)
-        return false;
-    return row->starts > 0 || (row->second == 0 && !row->running);
-}
-
-/* One pump into the sheet. hidden counts those that the writer may not read. */
-static void read_pump(struct wear_sheet *sheet, struct copy *copy, uint64_t writer, size_t station, unsigned pump,
-                      unsigned *hidden)
-{
-    struct kgt_hours hours = kgt_pump_hours(&copy->store, writer, pump);
+    uint64_t writer = reader_of(reader, pump), code;
     struct wear_row *row = &sheet->rows[sheet->count];
     uint8_t block[KAGUTIN_BLOCK_SIZE] = {0};
-    uint64_t code = hours.code ? hours.code : kgt_read(&copy->store, writer, KAGUTIN_PUMP_HOME + pump, block).code;
-    const char *path = sheet->stations[station].path;
+    struct pump_record record;
+    const char *path = sheet->stations[station].path, *why;
 
-    if (code == KAGUTIN_READ_DENIED) {
-        ++*hidden;
+    if (writer == KAGUTIN_WRITERS) {
+        reader->hidden++;
         return;
     }
+    code = kgt_read(&copy->store, writer, KAGUTIN_PUMP_HOME + pump, block).code;
     if (code != KAGUTIN_DONE) {
         wear_remark(sheet, WEAR_UNREAD, path, pump, "%s", kgt_answer_text(code));
         return;
     }
-    row->station = station;
-    row->pump = pump;
-    row->starts = hours.starts;
-    row->seconds = hours.seconds;
-    row->second = number32(block + LAST_EVENT);
-    row->running = block[RUNNING] != 0;
-    if (is_record(block, row)) {
-        sheet->count++;
+    why = record_pump(block, &record);
+    if (why) {
+        wear_remark(sheet, WEAR_UNREAD, path, pump, "home %u holds no record of pump %u: %s", KAGUTIN_PUMP_HOME + pump, pump,
+                    why);
         return;
     }
-    memset(row, 0, sizeof *row);
-    wear_remark(sheet, WEAR_UNREAD, path, pump, "home %u holds no record of pump %u", KAGUTIN_PUMP_HOME + pump, pump);
+    row->station = station;
+    row->pump = pump;
+    row->starts = record.starts;
+    row->seconds = record.seconds;
+    row->second = record.second;
+    row->running = record.running;
+    sheet->count++;
+}
+
+/* Says of whom the pumps are hidden, and who may read them. */
+static void tell_hidden(struct wear_sheet *sheet, const char *path, const struct reader *reader, unsigned pumps)
+{
+    const char *which = reader->hidden == pumps ? "the" : "some";
+
+    if (reader->hidden == 0)
+        return;
+    if (reader->asked == WEAR_ANY_WRITER)
+        wear_remark(sheet, WEAR_UNREAD, path, WEAR_NO_PUMP,
+                    "no writer has the right to read %s pumps' homes; 'kagutin rights set' can give it", which);
+    else if (reader->able == KAGUTIN_WRITERS)
+        wear_remark(sheet, WEAR_UNREAD, path, WEAR_NO_PUMP, "writer %u has no right to read %s pumps' homes, and nobody has",
+                    (unsigned)reader->asked, which);
+    else
+        wear_remark(sheet, WEAR_UNREAD, path, WEAR_NO_PUMP, "writer %u has no right to read %s pumps' homes; writer %u has",
+                    (unsigned)reader->asked, which, (unsigned)reader->able);
 }
 
 static uint64_t digest_of(const struct copy *copy)
@@ -92,15 +111,17 @@ static void read_pumps(struct wear_sheet *sheet, struct copy *copy, const struct
 {
     struct wear_station *station = &sheet->stations[index];
     size_t first_row = sheet->count;
-    unsigned pump, hidden = 0;
+    struct reader reader;
+    unsigned pump;
 
+    memset(&reader, 0, sizeof reader);
+    kgt_get_rights(&copy->store, 0, &reader.list);
+    reader.asked = options->writer;
+    reader.able = KAGUTIN_WRITERS;
     for (pump = 0; pump < KAGUTIN_PUMPS && KAGUTIN_PUMP_HOME + pump < copy->homes; pump++)
-        read_pump(sheet, copy, options->writer, index, pump, &hidden);
-    if (hidden)
-        wear_remark(sheet, WEAR_UNREAD, station->path, WEAR_NO_PUMP,
-                    "writer %u has no right to read %s pumps' homes; --writer W chooses another", (unsigned)options->writer,
-                    hidden == pump ? "the" : "some");
-    station->unread = hidden > 0;
+        read_pump(sheet, copy, &reader, index, pump);
+    tell_hidden(sheet, station->path, &reader, pump);
+    station->unread = reader.hidden > 0;
     station->read = sheet->count > first_row;
     station->digest = digest_of(copy);
     sheet->read_count += station->read;
@@ -142,7 +163,7 @@ static void read_image(struct wear_sheet *sheet, const struct wear_options *opti
 
     if (is_given_twice(sheet, index))
         return;
-    if (!copy_open(&copy, station->path)) {
+    if (!copy_open(&copy, station->path, options->base)) {
         bool named = strncmp(copy.message, station->path, length) == 0 && strncmp(copy.message + length, ": ", 2) == 0;
 
         station->unread = true;

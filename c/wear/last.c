@@ -3,6 +3,7 @@
 #include <stdlib.h>
 #include <string.h>
 
+#include "common/command.h"
 #include "common/csv.h"
 #include "sheet.h"
 
@@ -36,10 +37,16 @@ static const char *field(const struct csv *csv, const struct last_sheet *last, e
     return last->places[column] < csv->count ? csv->fields[last->places[column]] : "";
 }
 
+static void quit(struct csv *csv)
+{
+    csv_close(csv);
+    command_quit(STATUS_TROUBLE, "%s", csv->message);
+}
+
 static void quit_row(struct csv *csv, const char *what, const char *text)
 {
     csv_complain(csv, what, text);
-    wear_quit("%s", csv->message);
+    quit(csv);
 }
 
 static uint64_t number(struct csv *csv, const struct last_sheet *last, enum column column)
@@ -52,7 +59,7 @@ static uint64_t number(struct csv *csv, const struct last_sheet *last, enum colu
     value = strtoull(text, &end, 10);
     if (text[0] < '0' || text[0] > '9' || *end || errno || value > UINT64_C(0xffffffffff)) {
         csv_complain(csv, "%s is no whole number: '%s'", column_names[column], text);
-        wear_quit("%s", csv->message);
+        quit(csv);
     }
     return value;
 }
@@ -64,9 +71,11 @@ static void read_heading(struct csv *csv, struct last_sheet *last)
     size_t i;
 
     if (got == CSV_BAD)
-        wear_quit("%s", csv->message);
-    if (got == CSV_END)
-        wear_quit("%s: no wear sheet: it is empty", csv->path);
+        quit(csv);
+    if (got == CSV_END) {
+        csv_close(csv);
+        command_quit(STATUS_TROUBLE, "%s: no wear sheet: it is empty", csv->path);
+    }
     for (column = 0; column < COLUMNS; column++) {
         last->places[column] = CSV_FIELDS;
         for (i = 0; i < csv->count; i++)
@@ -117,8 +126,8 @@ static void check_doubles(const struct csv *csv, const struct wear_sheet *sheet,
     for (i = 0; i < last->count; i++)
         for (j = 0; j < i && last->rows[i].station < sheet->station_count && last->rows[i].pump != WEAR_NO_PUMP; j++)
             if (last->rows[j].station == last->rows[i].station && last->rows[j].pump == last->rows[i].pump)
-                wear_quit("%s: pump %u of %s stands there twice, also as %s", csv->path, last->rows[i].pump, last->rows[i].image,
-                          last->rows[j].image);
+                command_quit(STATUS_TROUBLE, "%s: pump %u of %s stands there twice, also as %s", csv->path, last->rows[i].pump,
+                             last->rows[i].image, last->rows[j].image);
 }
 
 /* ---- comparison ---- */
@@ -247,20 +256,31 @@ static void tell_reset(struct wear_sheet *sheet)
                         "exchanged or reset: its book contradicts the last sheet");
 }
 
+static void forget(struct last_sheet *last)
+{
+    size_t i;
+
+    for (i = 0; i < last->count; i++)
+        free(last->rows[i].image);
+    free(last->rows);
+    memset(last, 0, sizeof *last);
+}
+
 void wear_compare(struct wear_sheet *sheet, const char *path)
 {
-    struct last_sheet last = {NULL, 0, {0}};
+    static struct last_sheet last;
     static struct csv csv;
     enum csv_row got;
     size_t i;
 
+    forget(&last);
     if (!csv_open(&csv, path))
-        wear_quit("%s", csv.message);
+        command_quit(STATUS_TROUBLE, "%s", csv.message);
     read_heading(&csv, &last);
     while ((got = csv_read(&csv)) == CSV_ROW)
         read_row(&csv, sheet, &last);
     if (got == CSV_BAD)
-        wear_quit("%s", csv.message);
+        quit(&csv);
     csv_close(&csv);
     check_doubles(&csv, sheet, &last);
     if (sheet->last_day > sheet->day)
@@ -272,7 +292,5 @@ void wear_compare(struct wear_sheet *sheet, const char *path)
     tell_reset(sheet);
     tell_gone(sheet, &last);
     sheet->compared = true;
-    for (i = 0; i < last.count; i++)
-        free(last.rows[i].image);
-    free(last.rows);
+    forget(&last);
 }

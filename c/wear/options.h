@@ -6,7 +6,7 @@
 #include <stddef.h>
 #include <stdint.h>
 
-enum { WEAR_STATUS_DONE = 0, WEAR_STATUS_USAGE = 2, WEAR_STATUS_TROUBLE = 3 };
+enum { WEAR_ANY_WRITER = 8 }; /* for each pump the lowest that has the right */
 
 /* A second of the clock of one station, or of all that none is given for. */
 struct wear_now {
@@ -20,7 +20,7 @@ struct wear_options {
     const char *html, *csv; /* files to write */
     const char *done, *since;
     bool print_csv, all;
-    uint64_t hours, writer;
+    uint64_t hours, writer, base;
     int64_t day;
     struct wear_now *now;
     size_t now_count;
@@ -28,11 +28,6 @@ struct wear_options {
 
 /* Ends the program over wrong options, and after --help and --version. */
 struct wear_options wear_read_options(int count, char **words);
-
-void wear_complain(const char *format, ...);
-
-/* Complains, and ends the program: a file cannot be read or written. */
-void wear_quit(const char *format, ...);
 
 /* The name of a file without its folder. */
 const char *wear_name(const char *path);

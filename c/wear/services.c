@@ -4,6 +4,7 @@
 #include <stdlib.h>
 #include <string.h>
 
+#include "common/command.h"
 #include "common/csv.h"
 #include "kagutin_hours.h"
 #include "sheet.h"
@@ -52,10 +53,16 @@ static bool read_seconds(const char *text, uint64_t *seconds)
     return text[0] >= '0' && text[0] <= '9' && !*end && !errno && *seconds <= UINT64_C(0xffffffffff);
 }
 
+static void quit(struct csv *csv)
+{
+    csv_close(csv);
+    command_quit(STATUS_TROUBLE, "%s", csv->message);
+}
+
 static void quit_row(struct csv *csv, const char *what, const char *text)
 {
     csv_complain(csv, what, text);
-    wear_quit("%s", csv->message);
+    quit(csv);
 }
 
 static struct service read_service(struct csv *csv)
@@ -156,7 +163,7 @@ static void read_done(struct wear_sheet *sheet, const char *path)
     enum csv_row got;
 
     if (!csv_open(&csv, path))
-        wear_quit("%s", csv.message);
+        command_quit(STATUS_TROUBLE, "%s", csv.message);
     while ((got = csv_read(&csv)) == CSV_ROW) {
         struct service service;
 
@@ -173,7 +180,7 @@ static void read_done(struct wear_sheet *sheet, const char *path)
             take_service(sheet, &csv, &service);
     }
     if (got == CSV_BAD)
-        wear_quit("%s", csv.message);
+        quit(&csv);
     if (rows == 0)
         wear_remark(sheet, WEAR_NOTE, NULL, WEAR_NO_PUMP, "%s has no services", path);
     csv_close(&csv);

@@ -1,63 +1,13 @@
 /* Makes the wear sheet of images: starts, run hours and services due of each pump. */
 #include "wear.h"
 
-#include <stdarg.h>
 #include <stdlib.h>
 #include <string.h>
 
+#include "common/command.h"
 #include "common/page_file.h"
 #include "kagutin_hours.h"
 #include "sheet.h"
-
-void *wear_room(void *old, size_t count, size_t size)
-{
-    void *room = count > SIZE_MAX / size ? NULL : realloc(old, count * size + 1);
-
-    if (!room)
-        wear_quit("out of memory");
-    return room;
-}
-
-static char *copy_of(const char *text)
-{
-    return strcpy((char *)wear_room(NULL, strlen(text) + 1, 1), text);
-}
-
-void wear_remark(struct wear_sheet *sheet, enum wear_kind kind, const char *image, unsigned pump, const char *format, ...)
-{
-    struct wear_remark remark;
-    va_list arguments;
-    char text[1024], *at;
-
-    va_start(arguments, format);
-    vsnprintf(text, sizeof text, format, arguments);
-    va_end(arguments);
-    for (at = text; *at; at++)
-        if ((unsigned char)*at < 0x20 || *at == 0x7f)
-            *at = '?';
-    remark.kind = kind;
-    remark.image = image ? copy_of(image) : NULL;
-    remark.pump = pump;
-    remark.text = copy_of(text);
-    sheet->remarks = (struct wear_remark *)wear_room(sheet->remarks, sheet->remark_count + 1, sizeof *sheet->remarks);
-    sheet->remarks[sheet->remark_count++] = remark;
-}
-
-size_t wear_find(const struct wear_sheet *sheet, const char *name)
-{
-    int closest = WEAR_NO_MATCH;
-    size_t found = sheet->station_count, i;
-
-    for (i = 0; i < sheet->station_count; i++) {
-        int match = sheet->stations[i].doubled ? WEAR_NO_MATCH : wear_match(sheet->stations[i].path, name);
-
-        if (match == WEAR_NO_MATCH || match > closest)
-            continue;
-        found = match < closest ? i : sheet->station_count; /* two that match as closely: neither */
-        closest = match;
-    }
-    return found;
-}
 
 /* Remarks by what they are: what could not be read first. */
 static void sort_remarks(struct wear_sheet *sheet)
@@ -86,9 +36,9 @@ static bool complain_of(const struct wear_sheet *sheet, bool text_follows)
         if (text_follows && remark->kind != WEAR_UNREAD)
             continue;
         if (remark->image && remark->pump != WEAR_NO_PUMP)
-            wear_complain("%s: pump %u: %s", remark->image, remark->pump, remark->text);
+            command_say("%s: pump %u: %s", remark->image, remark->pump, remark->text);
         else
-            wear_complain("%s%s%s", remark->image ? remark->image : "", remark->image ? ": " : "", remark->text);
+            command_say("%s%s%s", remark->image ? remark->image : "", remark->image ? ": " : "", remark->text);
     }
     return all_read;
 }
@@ -99,12 +49,12 @@ static bool write_file(const struct wear_sheet *sheet, const char *path, const c
     struct page_file page;
 
     if (!page_create(&page, path, mark)) {
-        wear_complain("%s: cannot be created: %s", path, page.why);
+        command_say("%s: cannot be created: %s", path, page.why);
         return false;
     }
     write(sheet, page.file);
     if (!page_finish(&page)) {
-        wear_complain("%s: cannot be written: %s", path, page.why);
+        command_say("%s: cannot be written: %s", path, page.why);
         return false;
     }
     return true;
@@ -122,11 +72,7 @@ static bool write_sheet(const struct wear_sheet *sheet, const struct wear_option
         wear_csv(sheet, stdout);
     else if (!options->html && !options->csv)
         wear_text(sheet, stdout);
-    if (fflush(stdout) != 0 || ferror(stdout)) {
-        wear_complain("cannot write the output");
-        return false;
-    }
-    return done;
+    return command_end(STATUS_DONE) == STATUS_DONE && done;
 }
 
 /* The stations that were asked for. */
@@ -152,7 +98,7 @@ static struct wear_sheet new_sheet(const struct wear_options *options)
     sheet.stations = (struct wear_station *)calloc(options->count, sizeof *sheet.stations);
     sheet.rows = (struct wear_row *)calloc(KAGUTIN_PUMPS * options->count + 1, sizeof *sheet.rows);
     if (!sheet.stations || !sheet.rows)
-        wear_quit("out of memory");
+        command_quit(STATUS_TROUBLE, "out of memory");
     for (i = 0; i < options->count; i++)
         sheet.stations[i].path = options->images[i];
     return sheet;
@@ -189,5 +135,5 @@ int wear_main(int count, char **words)
         done = write_sheet(&sheet, &options) && done;
     free_sheet(&sheet);
     free(options.now);
-    return done ? WEAR_STATUS_DONE : WEAR_STATUS_TROUBLE;
+    return done ? STATUS_DONE : STATUS_TROUBLE;
 }

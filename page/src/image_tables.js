@@ -28,7 +28,7 @@ function commitsTable(told) {
     commit => [commit.rank, commit.first + " to " + commit.closing, commit.entries, commit.homes.join(" ")]);
 }
 
-/* The data area as an opening leaves it; homes beyond the end of the file are not listed, and zeros. */
+/* The data area as an opening leaves it; zeros where that is not known, which told.homes does not list. */
 function openedHomes(told) {
   const homes = new Uint8Array(BLOCK * told.header.homes);
   told.homes.forEach(({ home, block }) => {
@@ -38,9 +38,10 @@ function openedHomes(told) {
 }
 
 function homesTable(told, homes) {
-  const rows = told.homes.filter(home => !/^0*$/.test(home.block)), zeros = told.header.homes - rows.length;
-  const heads = ["home", "for", "value", "from position", "bytes"];
-  const caption = `${plural(told.header.homes, "home")}, as an opening leaves them; ${zeros} are zeros and left out`;
+  const rows = told.homes.filter(home => !/^0*$/.test(home.block)), zeros = told.homes.length - rows.length;
+  const heads = ["home", "for", "value", "from position", "bytes"], missing = told.header.homes - told.homes.length;
+  const caption = `${plural(told.header.homes, "home")}, as an opening leaves them; ${zeros} are zeros and left out`
+    + (missing ? `; ${missing} NOT READ, beyond the end of the file` : "");
   return table(caption, heads, rows, ({ home, from, block }) =>
     [home, homeName(home), blockText(home, homeBlock(homes, home)), from === null ? "its own block" : from,
       el("code", null, block.replace(/(00)+$/, "").replace(/(.{8})/g, "$1 "))]);
@@ -50,7 +51,13 @@ function rangesText(ranges) {
   return ranges.map(({ first, number: count }) => count === 1 ? String(first) : first + " to " + (first + count - 1)).join(", ") || "nothing";
 }
 
+/* A part of the image that the file is too short for. */
+function notRead(part) {
+  return part && part.not_read ? el("p", { class: "bad" }, "Not read: " + part.not_read + ".") : null;
+}
+
 function rightsPart(told) {
+  if (notRead(told.rights)) return notRead(told.rights);
   if (!told.rights.list) {
     return el("p", null, "No list, " + told.rights.why + "; only writer 0 stores to homes 8 to 11, the others are open to all.");
   }
@@ -58,21 +65,22 @@ function rightsPart(told) {
     row => [row.writer, rangesText(row.store), rangesText(row.read)]);
 }
 
-function bandsPart(homes) {
-  if (homes.length < BLOCK * (BAND_HOME + BAND_HOMES)) return el("p", null, "There are too few homes for depth bands.");
-  const { rows, fits } = readBands(homes.subarray(BLOCK * BAND_HOME, BLOCK * (BAND_HOME + BAND_HOMES)));
-  if (!fits) return el("p", null, "Homes 12 to 14 hold something else than a table of depth bands.");
-  if (!rows.length) return el("p", null, "No table is set.");
-  return table("Pumps that run at each depth", ["from mm", "to mm", "pumps"], rows, row => [row.from, row.to, row.pumps]);
+function bandsPart({ bands }) {
+  if (!bands) return el("p", null, "There are too few homes for depth bands.");
+  if (notRead(bands)) return notRead(bands);
+  if (bands.why) return el("p", { class: "bad" }, "Homes 12 to 14 hold something else than a table of depth bands: " + bands.why + ".");
+  if (!bands.length) return el("p", null, "No table is set.");
+  return table("Pumps that run at each depth", ["from mm", "to mm", "pumps"], bands, row => [row.from, row.to, row.pumps]);
 }
 
-function alarmsPart(homes) {
-  if (homes.length < BLOCK * (ALARM_HOME + ALARM_HOMES)) return el("p", null, "There are too few homes for alarms.");
-  const { list, gravest, fits } = readAlarms(homes.subarray(BLOCK * ALARM_HOME, BLOCK * (ALARM_HOME + ALARM_HOMES)));
-  if (!fits) return el("p", null, "Homes 24 to 29 hold something else than alarms.");
-  if (!list.length) return el("p", null, "No alarm is open.");
+function alarmsPart({ alarms }) {
+  if (!alarms) return el("p", null, "There are too few homes for alarms.");
+  if (notRead(alarms)) return notRead(alarms);
+  if (alarms.why) return el("p", { class: "bad" }, "Homes 24 to 29 hold something else than alarms: " + alarms.why + ".");
+  if (!alarms.open.length) return el("p", null, "No alarm is open.");
+  const gravest = alarms.open.find(alarm => alarm.identity === alarms.gravest);
   return el("div", null, el("p", null, `Gravest: alarm ${gravest.identity}, class ${gravest.class}, since second ${gravest.second}.`),
-    table("Open alarms", ["identity", "class", "arrival second"], list, alarm => [alarm.identity, alarm.class, alarm.second]));
+    table("Open alarms", ["identity", "class", "arrival second"], alarms.open, alarm => [alarm.identity, alarm.class, alarm.second]));
 }
 
 /* Hours with two digits, cut off. */
@@ -80,12 +88,9 @@ function hoursText(seconds) {
   return (Math.floor(seconds / 36) / 100).toFixed(2);
 }
 
-function pumpsOf(homes) {
-  const pumps = [];
-  for (let p = 0; p < PUMPS && homes.length >= BLOCK * (PUMP_HOME + p + 1); p++) {
-    pumps.push({ pump: p, ...readPump(homeBlock(homes, PUMP_HOME + p)) });
-  }
-  return pumps;
+/* fits: the pump's home was read, and holds its record. */
+function pumpsOf(told) {
+  return told.pumps.map((pump, p) => ({ pump: p, last: pump.second, fits: pump.starts !== undefined, ...pump }));
 }
 
 function wearBar(pump, interval, most) {
@@ -111,7 +116,7 @@ function wearOrder(interval) {
 /* The wear sheet of one image: the pump to open first at the top. */
 function wearTable(pumps, interval) {
   const ran = wornPumps(pumps).sort(wearOrder(interval));
-  if (!ran.length) return el("p", null, "No pump has ever started.");
+  if (!ran.length) return el("p", null, pumps.every(pump => pump.fits) ? "No pump has ever started." : "None of the other pumps has ever started.");
   const most = Math.max(interval, ...ran.map(pump => pump.worn));
   return table("Wear of the pumps, the pump to open first at the top",
     ["pump", "starts", "run hours", "hours a start", "services due", "hours to next", "run hours as a bar"], ran, pump => {
@@ -122,11 +127,12 @@ function wearTable(pumps, interval) {
     });
 }
 
-function wearPart(homes) {
-  const pumps = pumpsOf(homes), place = el("div");
-  const wrong = pumps.filter(pump => !pump.fits).map(pump => pump.pump);
-  const note = wrong.length ? el("p", null, "Homes of pumps " + wrong.join(", ") + " hold something else.") : null;
-  const draw = hours => fill(place, wearTable(pumps, 3600 * hours), note);
+function wearPart(told) {
+  const pumps = pumpsOf(told), place = el("div"), missing = pumps.filter(pump => pump.not_read), wrong = pumps.filter(pump => pump.why);
+  const names = some => some.map(pump => pump.pump).join(", ");
+  const notes = [missing.length ? el("p", { class: "bad" }, "Not read, " + missing[0].not_read + ": pumps " + names(missing) + ".") : null,
+    wrong.length ? el("p", { class: "bad" }, "Homes of pumps " + names(wrong) + " hold something else.") : null];
+  const draw = hours => fill(place, notes, missing.length === pumps.length ? null : wearTable(pumps, 3600 * hours));
   if (!pumps.length) return el("p", null, "There are too few homes for pumps.");
   draw(500);
   const field = el("input", { type: "number", min: 1, max: 100000, value: 500, id: "interval", on: { input: ({ target }) => {

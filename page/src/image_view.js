@@ -17,17 +17,15 @@ async function imageOfDump(bytes) {
 }
 
 /* Do the proved calls above the store tell what the tables show? Only homes that hold what they should are asked for. */
-function unitsAgree(store, homes) {
-  const same = (told, ...wants) => told.code !== 0 || wants.every((want, i) => want === told.figures[i]);
-  const part = (home, count) => homes.subarray(BLOCK * home, BLOCK * (home + count));
-  const interval = 500 * 3600;
-  const pumps = pumpsOf(homes).filter(pump => pump.fits).every(({ pump, starts, seconds }) =>
+function unitsAgree(store, told) {
+  const same = (reply, ...wants) => reply.code !== 0 || wants.every((want, i) => want === reply.figures[i]);
+  const { alarms, bands } = told, interval = 500 * 3600;
+  const pumps = pumpsOf(told).filter(pump => pump.fits).every(({ pump, starts, seconds }) =>
     same(store.askAny("pump_hours", [pump], 2), starts, seconds)
     && same(store.askAny("pump_services", [pump, interval], 2), Math.floor(seconds / interval), seconds % interval));
-  if (homes.length < BLOCK * (ALARM_HOME + ALARM_HOMES)) return pumps;
-  const { gravest, fits } = readAlarms(part(ALARM_HOME, ALARM_HOMES)), bands = readBands(part(BAND_HOME, BAND_HOMES));
-  return pumps && (!fits || same(store.askAny("alarm_gravest", [], 3), gravest.identity, gravest.class, gravest.second))
-    && (!bands.fits || bands.rows.every(row => same(store.askAny("bands_look_up", [row.from], 3), row.from, row.to, row.pumps)));
+  const gravest = alarms && alarms.open && (alarms.open.find(alarm => alarm.identity === alarms.gravest) || { identity: 0, class: 0, second: 0 });
+  return pumps && (!gravest || same(store.askAny("alarm_gravest", [], 3), gravest.identity, gravest.class, gravest.second))
+    && (!Array.isArray(bands) || bands.every(row => same(store.askAny("bands_look_up", [row.from], 3), row.from, row.to, row.pumps)));
 }
 
 class ImageView {
@@ -97,9 +95,9 @@ class ImageView {
       part("Entries and their transactions", entriesTable(told)),
       part("What comes back", commitsTable(told), el("p", { id: "stop" }, "The walk stopped: " + told.stop.why + "."
         + (told.stop.unreached ? " Closing entries after that: " + told.stop.unreached + "." : "")), el("p", { id: "proved" }, proved)),
-      part("Wear of the pumps", wearPart(homes)),
-      part("Depth bands", bandsPart(homes)),
-      part("Alarms", alarmsPart(homes)),
+      part("Wear of the pumps", wearPart(told)),
+      part("Depth bands", bandsPart(told)),
+      part("Alarms", alarmsPart(told)),
       part("Rights", rightsPart(told)),
       part("Homes", homesTable(told, homes)),
       part("Damage", told.damage.length ? el("ul", { id: "damage" }, told.damage.map(note => el("li", null, note))) : el("p", null, "None.")),
@@ -115,19 +113,20 @@ class ImageView {
       ["live", "groups " + header.start + " to " + last + ", positions " + 7 * header.start + " to " + (7 * last + 6)]];
     if (header.worn_out) rows.push(["worn", "out: an opening would move the start past 2^47 and is refused; homes as it would leave them"]);
     rows.push(["places", 7 * header.groups + ": " + places.committed + " with entries that come back, " + places.others + " with others, "
-      + places.torn + " torn, " + places.unused + " unused"]);
+      + places.torn + " torn, " + places.unused + " unused" + (places.not_read ? ", " + places.not_read + " NOT READ, beyond the end of the file" : "")]);
     return el("dl", { class: "lines" }, rows.map(([name, value]) => [el("dt", null, name), el("dd", null, value)]));
   }
 
   /* The proved program opens a copy; its homes must be the inspector's. */
   async proved(told, image, homes) {
+    if (told.not_read) return "The file is cut off: no program can open it, and what was not read is not known.";
     const store = await Store.make(told.header.groups, told.header.homes);
     const whole = new Uint8Array(HEADER + GROUP * told.header.groups + BLOCK * told.header.homes);
     whole.set(image.subarray(0, whole.length));
     const reply = store.openImage(whole);
     if (reply.code) return "The proved program refuses to open this image: " + reply.code + ", " + store.answerText(reply.code) + ".";
     const { area } = store;
-    const same = reply.figure === told.commits.length && homes.every((byte, i) => byte === area[i]) && unitsAgree(store, homes);
+    const same = reply.figure === told.commits.length && homes.every((byte, i) => byte === area[i]) && unitsAgree(store, told);
     return "The proved program opens this image and brings back " + plural(reply.figure, "transaction") + ". Its homes, pumps, alarms and bands are "
       + (same ? "the same, byte for byte." : "NOT the same: please report this image.");
   }

@@ -7,7 +7,10 @@ const STATES = {
   blank: "blank, or a place not used",
   old: "old: trimmed, below the start",
   damaged: "damaged",
+  unknown: "landed, not known whether it comes back",
+  missing: "not read, beyond the end of the file",
 };
+const SELDOM = ["damaged", "unknown", "missing"]; /* in the legend only if there are any */
 const INNER = 62, OUTER = 176, MIDDLE = 210, MOST_SPOKES = 64;
 
 function isBlank(block) {
@@ -16,7 +19,7 @@ function isBlank(block) {
 
 /* A data block of a slot without a valid group: what trims, openings and cuts leave there. */
 function looseState(hole, block, fits) {
-  if (hole.startsWith("damaged") || hole.startsWith("cut off")) return "damaged";
+  if (hole.startsWith("damaged")) return "damaged";
   if (isBlank(block)) return "blank";
   return hole.startsWith("trimmed") && fits ? "old" : "torn";
 }
@@ -25,7 +28,7 @@ function entryState(entry) {
   if (!entry) return "blank";
   if (entry.torn) return "torn";
   if (entry.kind === "nothing") return "damaged";
-  return entry.comes_back ? "back" : "stays";
+  return entry.comes_back === null ? "unknown" : entry.comes_back ? "back" : "stays";
 }
 
 /* The states of the eight blocks of each slot, from the inspector's JSON and the image's bytes. */
@@ -37,7 +40,7 @@ function blockStates(told, image) {
     if (!slot.hole) {
       return ["tags", ...[0, 1, 2, 3, 4, 5, 6].map(k => entryState(slot.entries.find(entry => entry.position === ENTRIES * slot.group + k)))];
     }
-    if (bytes.length < GROUP) return new Array(8).fill("damaged");
+    if (slot.hole.startsWith("cut off")) return new Array(8).fill("missing");
     const turn = Math.floor(number(bytes, 2, 6) / groups) % 2;
     const first = slot.hole.startsWith("trimmed") ? "old" : slot.hole.startsWith("damaged") ? "damaged" : "blank";
     return [first, ...[1, 2, 3, 4, 5, 6, 7].map(k => looseState(slot.hole, block(k), block(k)[BLOCK - 1] >> 7 === turn))];
@@ -98,7 +101,7 @@ function legend(states, more = []) {
   const counts = countStates(states);
   const sign = state => svg("svg", { viewBox: "0 0 18 18", class: "sign", "aria-hidden": "true" },
     svg("rect", { x: 1, y: 1, width: 16, height: 16, class: "cell " + state }));
-  return el("ul", { class: "legend" }, Object.keys(STATES).filter(state => state !== "damaged" || counts.damaged)
+  return el("ul", { class: "legend" }, Object.keys(STATES).filter(state => counts[state] || !SELDOM.includes(state))
     .map(state => el("li", null, sign(state), STATES[state] + " (" + (counts[state] || 0).toLocaleString("en") + ")")),
   more.map(([state, text]) => el("li", null, sign(state), text)));
 }

@@ -67,17 +67,6 @@ function alarmBytes(list) {
   return bytes;
 }
 
-/* Depth bands: rows of from, to, pumps. */
-function readBands(bytes) {
-  const rows = [];
-  for (let i = 0; i < Math.min(bytes[0], 32); i++) {
-    rows.push({ from: number(bytes, 1 + 5 * i, 2), to: number(bytes, 3 + 5 * i, 2), pumps: bytes[5 + 5 * i] });
-  }
-  let next = 0;
-  for (const row of [...rows].sort((a, b) => a.from - b.from)) next = row.from === next && row.to >= row.from ? row.to + 1 : -1;
-  return { rows, fits: rows.length === 0 ? allZeros(bytes) : next === 10000 && bytes[0] <= 32 && rows.every(row => row.pumps <= 4) };
-}
-
 /* The strip that the call takes, and the three blocks that the homes then hold. */
 function bandRows(rows) {
   const bytes = new Uint8Array(5 * rows.length);

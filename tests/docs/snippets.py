@@ -11,7 +11,7 @@ examples, made by one change: the judge must refuse them.
 Commands. Every line of a block fenced as sh is run here, in a folder for each page with the files that the page shows
 (<!-- file: NAME -->) and those of inputs(); what stands under <!-- printed --> must have been printed. ELSEWHERE and
 OTHER_TEST name those that are not run here, and why. make builds into OUT as it was told to; the rest runs in the folder.
-Sessions, fenced as console, are run by tests/programs/documents.py.
+Sessions, fenced as console, are run by tests/programs/documents.py; blocks fenced as rust by cargo test, on the pages that RUST_CRATE takes in.
 
 Prints a line for each test; the last line counts them. Status 1 if one failed.
 """
@@ -31,13 +31,17 @@ FRAMES = "tests/docs/snippets"
 SHARED = FRAMES + "/tries.c"
 INCLUDE = ["-Iinclude", "-Idist", "-I" + FRAMES]
 PROGRAMS = "target/c"  # as the pages name it
+README_SIZE = 7000
+RUST_CRATE = "rust/kagutin/src/lib.rs"
 
 STRICT = "-Wall -Wextra -pedantic -Wshadow -Wconversion -Werror -O1".split()
+CASTS = {"gcc": ["-Wold-style-cast", "-Wuseless-cast"], "clang": ["-Wold-style-cast"]}  # as C++: examples and headers have none
 SANITIZE = "-g -fno-omit-frame-pointer -fsanitize=address,undefined -fno-sanitize-recover=all".split()
 CC = os.environ.get("CC", "cc").split()  # made the libraries
 BUILDS = [(family, standard) for family in ("gcc", "clang") for standard in ("c99", "c11", "c++17")]
 
-ELSEWHERE = {"make test": "it is the gate, and runs this test", "make quick": "its tests are part of the gate"}
+ELSEWHERE = {"make test": "it is the gate, and runs this test", "make quick": "its tests are part of the gate",
+             "make rtos": "board-check runs it"}
 
 # Pages whose commands another test runs, all that they print compared.
 OTHER_TEST = {"docs/WEAR.md": "tests/programs/wear-check.sh"}
@@ -57,6 +61,8 @@ WRONG = [
     ("kagutin_rights", "return kgt_sync(&store).mark >= set.ticket;", "return set.code == KAGUTIN_DONE;"),
     ("drivers_driver", "    return flush_cache();", "    flush_cache();\n    return 0;"),
     ("drivers_driver", "return error;", "return 0;"),
+    ("drivers_powerloss", "kit.bytes_in_order = true;", ""),
+    ("drivers_powerloss", "bytes, CHIP, 1)", "bytes, CHIP, 8)"),
     ("drivers_maintain", "while (left.more)", "while (left.more || left.error == 1)"),
     ("drivers_maintain", "synced == KAGUTIN_DONE && ", ""),
     ("drivers_maintain", "return synced == KAGUTIN_DONE && left.code == KAGUTIN_DONE;", "return synced == KAGUTIN_DONE;"),
@@ -113,8 +119,10 @@ def fenced(page, text):
             blocks.append(inside)
             if inside.kind == "c" and not inside.named("snippet"):
                 wrong.append("%s:%d: a C block without the name of a snippet" % (page, number))
-            if inside.kind not in ("c", "sh", "text", "console"):
-                wrong.append("%s:%d: a block of kind '%s'; c, sh, text and console are known" % (page, number, inside.kind))
+            if inside.kind == "rust" and '/%s"' % page not in text_of(RUST_CRATE):
+                wrong.append("%s:%d: a Rust block on a page that the crate does not test" % (page, number))
+            if inside.kind not in ("c", "sh", "text", "console", "rust"):
+                wrong.append("%s:%d: a block of kind '%s'; c, sh, text, console and rust are known" % (page, number, inside.kind))
         elif re.match(r" {4}\S", line) and not last.strip():
             wrong.append("%s:%d: an indented block; fence it as c, sh or text" % (page, number))
         elif marker.startswith("<!-- snippet"):
@@ -143,6 +151,7 @@ def in_comments(header_text):
 def check_forms():
     """What must be found in a page, and what in a header."""
     pages = [("```c\nint x;\n```", "without the name"), ("<!-- snippet: x -->\ntext", "no C block"), ("```\nx\n```", "kind ''"),
+             ("```rust\nx\n```", "does not test"),
              ("text\n\n    int x;\n", "indented"), ("<!-- snippet: x -->\n```c\nint x;\n```\n- item\n    more of it", None)]
     right = True
     for text, complaint in pages:
@@ -201,7 +210,7 @@ def run(command, folder=None, limit=120):
 
 def compiler(family, standard):
     if standard.startswith("c++"):
-        return ["g++" if family == "gcc" else "clang++", "-x", "c++"]
+        return ["g++" if family == "gcc" else "clang++", "-x", "c++", *CASTS[family]]
     return [family]
 
 
@@ -312,6 +321,8 @@ def main(words):
     split = words.index("--sanitized") if "--sanitized" in words else len(words)
     out, libraries, sanitized = words[0], words[1:split], words[split + 1:]
     check_forms()
+    size = os.path.getsize("README.md")
+    report(size <= README_SIZE, "README.md is one page: %d bytes of %d" % (size, README_SIZE))
     found, wrong, pages = snippets()
     framed, misplaced = frames()
     wrong += misplaced

@@ -82,7 +82,7 @@ static void compare(const char *path, unsigned long at)
     size_t home;
 
     check(homes_read(&homes, path, 0, false), "the dump by the commit rule", at);
-    check(copy_open(&copy, path), "the dump by the library", at);
+    check(copy_open(&copy, path, 0), "the dump by the library", at);
     check(homes.dump && homes.groups == GROUPS && homes.homes == HOMES && copy.homes == HOMES, "its shape", at);
     for (home = 0; home < HOMES; home++) {
         check(kgt_read(&store, 0, home, block).code == KAGUTIN_DONE, "read", at);

@@ -1,6 +1,6 @@
 /*
  * Image files, written and mapped: work stopped inside each kind of write,
- * locks, creation by many at once, files that fail, that shrink and that are
+ * locks, files that fail, that shrink and that are
  * full. Argument: a folder for scratch files.
  */
 #define _DEFAULT_SOURCE 1
@@ -166,35 +166,6 @@ static void check_lock(void)
     check(in_child(open_elsewhere) == 0, "a closed file is free", 0);
 }
 
-/* Eight processes create one name at the same time: one of them does. */
-static void check_creation(void)
-{
-    struct kgt_file made;
-    int round, i, starts[2], status, successes;
-    char go;
-
-    for (round = 0; round < 10; round++) {
-        unlink(path);
-        successes = 0;
-        check(pipe(starts) == 0, "pipe", 0);
-        fflush(stdout);
-        for (i = 0; i < 8; i++)
-            if (fork() == 0) {
-                close(starts[1]);
-                _exit(read(starts[0], &go, 1) != 0 || !kgt_file_create(&made, path, GROUPS, HOMES));
-            }
-        close(starts[0]);
-        close(starts[1]);
-        for (i = 0; i < 8; i++) {
-            check(wait(&status) > 0 && WIFEXITED(status), "a child", 0);
-            successes += WEXITSTATUS(status) == 0;
-        }
-        check(successes == 1, "one process has made the image", (unsigned long)successes);
-        check(kgt_file_open(&made, path), "and it is whole", 0);
-        kgt_file_close(&made);
-    }
-}
-
 /* ---- files that fail ---- */
 
 /* After one failure the file is of no more use, though the disk is in order again. */
@@ -263,16 +234,6 @@ static void check_shrunk(void)
     check(!kgt_file_open(&file, path), "nor is it opened", 0);
 }
 
-static void check_missing(void)
-{
-    char missing[5000];
-
-    snprintf(missing, sizeof missing, "%s/none/x.img", path);
-    check(!kgt_file_create(&file, missing, GROUPS, HOMES), "a folder that is none", 0);
-    check(!kgt_file_create(&file, path, 3, HOMES), "3 groups", 0);
-    check(!kgt_file_open(&file, "/dev/null") && strstr(file.message, "regular"), "a device", 0);
-}
-
 int main(int count, char **words)
 {
     int i;
@@ -293,8 +254,6 @@ int main(int count, char **words)
         check_shrunk();
     }
     check_lock();
-    check_creation();
-    check_missing();
     unlink(path);
     puts("file_check: right");
     return 0;

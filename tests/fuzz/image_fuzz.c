@@ -18,6 +18,12 @@ enum { MOST_HOMES = 2000 }; /* more cost time and show nothing else */
 
 static jmp_buf given_up;
 
+/* The fuzzer's own messages are to be seen. */
+void inspect_say(const char *format, ...)
+{
+    (void)format;
+}
+
 /* The inspector's way to end, back into the fuzzer. */
 void inspect_quit(int status, const char *format, ...)
 {
@@ -29,7 +35,7 @@ void inspect_quit(int status, const char *format, ...)
 static void inspect(const char *path, uint8_t told)
 {
     static struct image image;
-    struct options options = {NULL, false, NOT_GIVEN, NOT_GIVEN, NOT_GIVEN};
+    struct options options = {NULL, false, NOT_GIVEN, NOT_GIVEN, NOT_GIVEN, 0};
     struct rule_walk walk;
     struct fates fates;
 
@@ -38,7 +44,8 @@ static void inspect(const char *path, uint8_t told)
         options.groups = 4 + told / 16;
     memset(&image, 0, sizeof image);
     if (setjmp(given_up) == 0) {
-        image_read(&image, path);
+        options.path = path;
+        image_read(&image, &options);
         image_check_header(&image);
         image_choose_shape(&image, &options);
         image_check(&image);
@@ -62,7 +69,7 @@ static void compare(const char *path)
 
     if (!homes_read(&homes, path, 0, false))
         return;
-    if (homes.homes <= MOST_HOMES && copy_open(&copy, path)) {
+    if (homes.homes <= MOST_HOMES && copy_open(&copy, path, 0)) {
         if (homes.older || homes.worn_out || copy.homes != homes.homes)
             abort();
         for (home = 0; home < homes.homes; home++)

@@ -1,9 +1,10 @@
 #!/bin/sh
-# Seeds for the fuzzers: seeds.sh PROGRAM FOLDER fills FOLDER/image and FOLDER/text. The first byte of a seed is the fuzzer's choice.
+# Seeds for the fuzzers: seeds.sh PROGRAM FOLDER fills FOLDER/image, FOLDER/text and FOLDER/sheet. The first byte of a seed is the fuzzer's choice.
 set -eu
 kagutin=$1
+program=$(cd "$(dirname "$kagutin")" && pwd)/$(basename "$kagutin")
 folder=$2
-mkdir -p "$folder/image" "$folder/text"
+mkdir -p "$folder/image" "$folder/text" "$folder/sheet"
 tmp=$(mktemp -d)
 trap 'rm -rf "$tmp"' EXIT
 
@@ -30,3 +31,9 @@ seed text/list '\001' "$tmp/list.txt"
 for name in days minutes clock; do seed "text/$name" '\002' "$tmp/$name.csv"; done
 for name in json hex; do seed "text/homes-$name" '\003' "$tmp/homes.$name"; done
 seed text/services '\004' "$tmp/services.csv"
+printf 'station,pump,last\nnorth.img,0,4000h\n"2026/north.img";3;2026-01-31\ndepot,0,2000000\n' > "$tmp/done.csv"
+seed sheet/done '\000' "$tmp/done.csv"
+mkdir "$tmp/2025"
+cp "$tmp/cut.img" "$tmp/2025/north.img"
+(cd "$tmp" && "$program" wear --csv --all --date 2025-11-17 2025/north.img west.img > last.csv 2> "$tmp/log") || test $? -eq 3
+seed sheet/last '\001' "$tmp/last.csv"

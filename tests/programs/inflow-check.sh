@@ -49,9 +49,9 @@ grep -q '^inflow (Kagutin) [0-9]' "$tmp/out"; report $? "and it says its version
 says "depth before: the low end 10 is above the high end 9" 1 "a range the wrong way round" "$san/inflow" --area 5 10..9 1
 says "depth after: the low end" 1 "the depth after" "$san/inflow" --area 5 1 7..6
 says "pumped volume: the low end" 1 "the pumped volume" "$san/inflow" --area 5 1 1 --pumped 2..1
-says "from 1 to 1000000 cm², not 0" 1 "area 0" "$san/inflow" --area 0 1 1
-says "not 1000001" 1 "area 1000001" "$san/inflow" --area 1000001 1 1
-says "not 4294967297" 1 "an area past 32 bits" "$san/inflow" --area 4294967297 1 1
+says "--area takes a whole number from 1 to 1000000, not '0'" 2 "area 0" "$san/inflow" --area 0 1 1
+says "not '1000001'" 2 "area 1000001" "$san/inflow" --area 1000001 1 1
+says "not '4294967297'" 2 "an area past 32 bits" "$san/inflow" --area 4294967297 1 1
 
 # --- wrong options ---
 says "area is missing" 2 "no area" "$san/inflow" 1 2
@@ -60,13 +60,13 @@ says "is a third" 2 "three depths" "$san/inflow" --area 5 1 2 3
 says "unknown option" 2 "--frob" "$san/inflow" --frob
 says "takes a value" 2 "--area at the end" "$san/inflow" 1 2 --area
 says "takes a value" 2 "--pumped at the end" "$san/inflow" --area 5 1 2 --pumped
-says "BEFORE: whole numbers from 0 to 65535" 2 "a depth of 65536" "$san/inflow" --area 5 65536 1
-says "AFTER: whole numbers" 2 "a letter" "$san/inflow" --area 5 1 x
-says "AFTER: LOW..HIGH or one value" 2 "a single dot" "$san/inflow" --area 5 1 1.2
-says "AFTER: whole numbers" 2 "an open range" "$san/inflow" --area 5 1 1..
+says "BEFORE takes whole numbers from 0 to 65535" 2 "a depth of 65536" "$san/inflow" --area 5 65536 1
+says "AFTER takes whole numbers" 2 "a letter" "$san/inflow" --area 5 1 x
+says "AFTER takes LOW..HIGH or one value" 2 "a single dot" "$san/inflow" --area 5 1 1.2
+says "AFTER takes whole numbers" 2 "an open range" "$san/inflow" --area 5 1 1..
 says "0 to 4294967295" 2 "a large pumped volume" "$san/inflow" --area 5 1 1 --pumped 4294967296
-says "a whole number from 1 to 1000000 is expected" 2 "an area with a fraction" "$san/inflow" --area 5.5 1 1
-says "a whole number from 1 to 1000000 is expected" 2 "an area of letters" "$san/inflow" --area x 1 1
+says "--area takes a whole number from 1 to 1000000" 2 "an area with a fraction" "$san/inflow" --area 5.5 1 1
+says "--area takes a whole number from 1 to 1000000" 2 "an area of letters" "$san/inflow" --area x 1 1
 
 if command -v valgrind > /dev/null; then
     gives 0 "under memcheck" valgrind -q --error-exitcode=9 --leak-check=full "$out/inflow" --area 10000 0..10 5..20

@@ -5,6 +5,7 @@ set -u
 out=$1
 san=$out/sanitize
 k=$san/kagutin
+home=$(pwd)
 . tests/common/helpers.sh
 
 shows() {
@@ -93,7 +94,9 @@ gives 0 "the image stays" cmp "$tmp/north.img" "$tmp/before.img"
 printf '\357\273\2770 read all\n0 store 0\n1 nothing\n2 nothing\n3 nothing\n4 nothing\n5 nothing\n6 nothing\n7 nothing\n' > "$tmp/bom.txt"
 says "note: no writer may store to homes 16 to 23, the pumps" 0 "a list that leaves the pumps to nobody, with a byte order mark" "$k" rights set "$tmp/north.img" "$tmp/bom.txt"
 printf '0 9999 1\n' > "$tmp/table.txt"
+cp "$tmp/north.img" "$tmp/before.img"
 says "no writer has the right to store to homes 12 to 14" 1 "bands under it" "$k" bands set "$tmp/north.img" "$tmp/table.txt"
+gives 0 "the image stays" cmp "$tmp/north.img" "$tmp/before.img"
 says "a list takes homes 8 to 11; the image has 1 homes" 1 "a list in a small image" "$k" rights set "$tmp/small.img" "$tmp/list.txt"
 gives 0 "rights clear" "$k" rights clear "$tmp/north.img"
 gives 0 "bands" "$k" bands set --writer=3 "$tmp/north.img" "$tmp/table.txt"
@@ -108,19 +111,44 @@ gives 0 "and back" "$k" convert "$tmp/station.bin" "$tmp/again.img"
 gives 0 "the same image" cmp "$tmp/station.img" "$tmp/again.img"
 gives 0 "into a chip" "$k" convert --base 300 --size=16384 "$tmp/station.img" "$tmp/chip.bin"
 [ "$(wc -c < "$tmp/chip.bin")" -eq 16384 ]; report $? "of 16384 bytes"
-says "no image" 3 "a chip without its base" "$k" convert "$tmp/chip.bin" "$tmp/none.img"
+says "no image.*; a store begins at byte 300: --base 300$" 3 "a chip without its base" "$k" convert "$tmp/chip.bin" "$tmp/none.img"
+says "a store begins at byte 300: --base 300$" 1 "inspect a chip without its base" "$k" inspect "$tmp/chip.bin"
+says "a store begins at byte 300: --base 300$" 3 "wear of a chip without its base" "$k" wear "$tmp/chip.bin"
+[ "$(od -An -v -tx1 -w32 -N64 "$tmp/station.bin" | sort -u | wc -l)" -eq 1 ]; report $? "both copies of the header, the same"
+gives 0 "inspect calls both whole" "$k" inspect "$tmp/station.bin"
+shows "^dump  *of a serial FRAM: the header's copy at 0 counts, the one at 32 is the same; 0 bytes behind"
 gives 0 "back from the chip" "$k" convert --base 300 "$tmp/chip.bin" "$tmp/chip.img"
 gives 0 "the same image" cmp "$tmp/station.img" "$tmp/chip.img"
 says "do not fit in 7000" 1 "a small chip" "$k" convert --size 7000 "$tmp/station.img" "$tmp/none.bin"
 says "exists already" 3 "convert over a file" "$k" convert "$tmp/station.img" "$tmp/chip.bin"
 says "image or dump" 2 "--to frob" "$k" convert --to frob a b
 [ ! -e "$tmp/none.bin" ] && [ ! -e "$tmp/none.img" ] && [ -z "$(find "$tmp" -name '*.bin.*')" ]; report $? "nothing is left of what was refused"
-for command in inspect alarms "rights show" export "wear --writer 7"; do
-    gives 0 "$command of the image" "$k" $command "$tmp/station.img"
-    sed -e 's/station\.img/station.xxx/' -e '/^dump /d' "$tmp/out" > "$tmp/image.out"
-    gives 0 "$command of the dump" "$k" $command "$tmp/station.bin"
-    sed -e 's/station\.bin/station.xxx/' -e '/^dump /d' "$tmp/out" | cmp - "$tmp/image.out" > "$tmp/log" 2>&1; report $? "the same"
+gives 0 "a table" "$k" bands set "$tmp/again.img" "$tmp/table.txt"
+gives 0 "its dump, and a chip with two stores" "$k" convert "$tmp/again.img" "$tmp/again.bin"
+cat "$tmp/station.bin" "$tmp/again.bin" > "$tmp/twice.bin"
+base=$(wc -c < "$tmp/station.bin")
+gives 0 "the second store of a chip" "$k" convert --base "$base" "$tmp/twice.bin" "$tmp/second.img"
+gives 0 "is that of the base" cmp "$tmp/second.img" "$tmp/again.img"
+# What a reader prints of a file is what it prints of a dump, at 0 or at a base.
+same() {
+    sed -e "s/\($1\)\.[a-z]*/xxx/" -e 's/[0-9]* bytes$//' -e '/^dump /d' -e 's/"bytes":.*"dump":.*,$//' "$tmp/out" | cmp - "$tmp/image.out" > "$tmp/log" 2>&1; report $? "the same"
+}
+for command in inspect "inspect --json" alarms "alarms --csv" "rights show" export wear "wear --csv" "bands show" "bands at"; do
+    mm=
+    if [ "$command" = "bands at" ]; then mm=5; fi
+    gives 0 "$command of the image" "$k" $command "$tmp/again.img" $mm
+    sed -e 's/again\.img/xxx/' -e 's/[0-9]* bytes$//' -e 's/"bytes":.*"dump":.*,$//' "$tmp/out" > "$tmp/image.out"
+    gives 0 "$command of the dump" "$k" $command "$tmp/again.bin" $mm
+    same again
+    gives 0 "$command of the second store of a chip" "$k" $command --base="$base" "$tmp/twice.bin" $mm
+    same twice
+    gives 0 "$command of an image, a base for dumps given" "$k" $command --base 300 "$tmp/again.img" $mm
+    same again
+    says "none from 70000 on" 3 "$command beyond the end" "$k" $command --base 70000 "$tmp/twice.bin" $mm
+    says "from 0 to 16777215, not '-1'" 2 "$command before the begin" "$k" $command --base -1 "$tmp/twice.bin" $mm
 done
+says "not changed in place" 2 "rights set at a base" "$k" rights set --base 5 "$tmp/twice.bin" "$tmp/list.txt"
+says "not changed in place" 2 "bands set at a base" "$k" bands set --base 5 "$tmp/twice.bin" "$tmp/list.txt"
 says "is not changed in place" 3 "bands set in a dump" "$k" bands set "$tmp/station.bin" "$tmp/table.txt"
 says "is not changed in place" 3 "rights set in a dump" "$k" rights set "$tmp/station.bin" "$tmp/list.txt"
 
@@ -159,6 +187,17 @@ row=1,$(printf '%0128d' 0)
 text "$row\n$row\n" 'bad.txt:2: home 1 stands here a second time' "twice"
 text "99999$row\n" 'bad.txt:1: home 999991: homes go' "a large home"
 text '\0' 'a zero byte' "a zero byte"
+text '' 'bad.txt:1: no homes in it' "an empty text"
+text '# groups 4 homes 8\n{}\n' 'bad.txt:2: a row is' "a brace"
+for kind in csv hex; do
+    sed '$d' "$tmp/homes.$kind" > "$tmp/cut.txt"
+    says "cut.txt:.*: the text is cut off, or has lines too many: it tells of [0-9]* homes and has" 3 "a text as $kind cut off" "$k" import "$tmp/cut.txt" "$tmp/none.img"
+    sed '1s/ blocks.*//' "$tmp/homes.$kind" > "$tmp/old.txt"
+    rm -f "$tmp/old.img"
+    gives 0 "a text that does not tell how many" "$k" import "$tmp/old.txt" "$tmp/old.img"
+done
+printf '{"groups":99999,"homes":12,"blocks":[]}' > "$tmp/shape.json"
+says "groups go from 4 to 1024" 3 "a text with a wrong shape" "$k" import "$tmp/shape.json" "$tmp/none.img"
 [ ! -e "$tmp/none.img" ]; report $? "none of them makes an image"
 printf '%s\n' "$row" > "$tmp/plain.txt"
 says "does not say how many groups" 3 "no shape" "$k" import "$tmp/plain.txt" "$tmp/none.img"
@@ -204,26 +243,37 @@ fi
 
 # --- alarms, and what lies in the homes of units and is none ---
 gives 0 "alarms as CSV" "$k" alarms --csv "$tmp/new.img"
-shows '^image,rank,identity,class,second$'
+shows '^image,rank,identity,class,second,note$'
 says "fewer than 30 homes" 1 "alarms of a small image" "$k" alarms "$tmp/small.img"
 says "cannot be opened" 3 "alarms of a missing image" "$k" alarms "$tmp/missing.img" "$tmp/new.img"
 shows 'alarm.* open'
+shows 'missing.img: NOT READ: cannot be opened: No such file'
+gives 3 "the same as CSV" "$k" alarms --csv "$tmp/missing.img" "$tmp/small.img" "$tmp/north.img" "$tmp/new.img"
+shows 'missing.img,,,,,"not read: cannot be opened: No such file or directory"$'
+shows 'small.img,,,,,"not read: homes 24 to 29 hold no list of alarms: the image has fewer than 30 homes"$'
+shows 'north.img,,,,,no alarm open$'
 gives 0 "an image" "$k" make "$tmp/units.img" 4 30
 homes=$((64 + 512 * 4))
 put() { printf "$2" | dd of="$tmp/units.img" bs=1 seek="$1" conv=notrunc 2> /dev/null; }
 put $((homes + 64 * 12)) '\001'
 put $((homes + 64 * 19 + 5)) '\001'
 put $((homes + 64 * 24)) '\061'
-gives 0 "inspect homes that hold something else" "$k" inspect "$tmp/units.img"
+gives 1 "inspect homes that hold something else" "$k" inspect "$tmp/units.img"
 shows '^bands: ! homes 12 to 14 hold no table: a millimetre lies in no row'
 shows '^  pump 3  ! home 19 holds no record of a pump: no starts, but seconds$'
 shows '^alarms: ! homes 24 to 29 hold no list of alarms: more than 48 alarms$'
+shows '^damage (3)$'
+shows '^  homes 12 to 14: no table of depth bands: a millimetre'
+shows '^  home 19: no record of pump 3: no starts, but seconds$'
+shows '^  homes 24 to 29: no list of alarms: more than 48 alarms$'
 says "hold no list of alarms: more than 48" 1 "alarms there" "$k" alarms "$tmp/units.img"
+says "home 19 holds no record of pump 3: no starts, but seconds" 3 "wear there" "$k" wear "$tmp/units.img"
 if command -v python3 > /dev/null; then
-    gives 0 "inspect --json" "$k" inspect --json "$tmp/units.img"
+    gives 1 "inspect --json" "$k" inspect --json "$tmp/units.img"
     cp "$tmp/out" "$tmp/units.json"
     gives 0 "bands, pumps and alarms as JSON" python3 -c 'import json, sys; v = json.load(open(sys.argv[1]))
-assert "no row" in v["bands"]["why"] and v["pumps"][3]["why"] and v["pumps"][2]["starts"] == 0 and v["alarms"]["why"] and v["dump"] is None' "$tmp/units.json"
+assert "no row" in v["bands"]["why"] and v["pumps"][3]["why"] and v["pumps"][2]["starts"] == 0 and v["alarms"]["why"] and v["dump"] is None
+assert len(v["damage"]) == 3 and v["not_read"] is None' "$tmp/units.json"
 fi
 put 10 '\377\377'
 gives 1 "inspect --json of a damaged count of homes" "$k" inspect --json "$tmp/units.img"
@@ -231,6 +281,11 @@ gives 1 "inspect --json of a damaged count of homes" "$k" inspect --json "$tmp/u
 put 8 '\377\003'
 gives 1 "and of groups" "$k" inspect --json "$tmp/units.img"
 [ "$(wc -c < "$tmp/out")" -lt 90000 ]; report $? "stays small"
+
+# --- files that are cut off: what was not read is told so, at every length ---
+if command -v python3 > /dev/null; then
+    gives 0 "inspect cut-off images" python3 tests/programs/cut_off.py "$k" "$tmp"
+fi
 
 # --- sealed blocks ---
 gives 0 "seals, and an image with one" "$san/seal_check" "$tmp/seal.img"
@@ -242,6 +297,28 @@ put_seal $((64 + 512 * 4 + 64 * 5 + 20)) '\377'
 gives 1 "inspect it with a byte changed" "$k" inspect "$tmp/seal.img"
 shows '^  home 5: sealed, and its checksum does not fit$'
 says "note: .*home 5 is sealed, and its checksum does not fit" 0 "export it" "$k" export "$tmp/seal.img"
+
+# --- empty files ---
+: > "$tmp/empty.img"
+for words in inspect "inspect --json --groups 4" alarms "rights show" "rights clear" export wear "bands show" "station --file"; do
+    says "empty\|short file: 0 bytes" 3 "$words of an empty file" "$k" $words "$tmp/empty.img"
+done
+
+# --- names that begin with a dash ---
+(cd "$tmp" && "$home/$k" make -- -odd.img 4 30 && "$home/$k" inspect -- -odd.img && "$home/$k" alarms --csv -- -odd.img && "$home/$k" wear -- -odd.img) > "$tmp/out" 2> "$tmp/log"
+report $? "names behind --"
+
+# --- killed while a file is written: nothing is left of it, where the file system has files without a name ---
+mkdir "$tmp/killed"
+if python3 -c 'import os, sys; os.open(sys.argv[1], os.O_TMPFILE | os.O_RDWR)' "$tmp/killed" 2> "$tmp/log"; then
+    for words in "make killed/x.img 16 32" "import homes.csv killed/x.img" "convert again.img killed/x.bin" "wear --html killed/x.html again.img" \
+        "wear --all --csv=killed/x.csv again.img north.img new.img"; do
+        (cd "$tmp" && ulimit -f 1 && exec "$home/$out/kagutin" $words) > "$tmp/out" 2> "$tmp/log"
+        [ $? -gt 128 ] && [ -z "$(ls "$tmp/killed")" ]; report $? "$words: killed, and nothing is left"
+    done
+else
+    echo "skipped kills while a file is written: no files without a name here"
+fi
 
 # --- FIFOs and folders ---
 mkfifo "$tmp/fifo"

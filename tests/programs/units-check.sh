@@ -47,15 +47,17 @@ gives 0 "at 899" "$san/bands" at "$tmp/north.img" 899
 shows '^899 mm: 1 pump, as from 300 to 899 mm$'
 gives 0 "at 9999, another writer" "$san/bands" at --writer 7 "$tmp/north.img" 9999
 shows '^9999 mm: 4 pumps, as from 1500 to 9999 mm$'
-says "depths go from 0 to 9999" 1 "at 10000" "$san/bands" at "$tmp/north.img" 10000
+says "MM takes a whole number from 0 to 9999, not '10000'" 2 "at 10000" "$san/bands" at "$tmp/north.img" 10000
 says "from 0 to 7" 2 "writer 8" "$san/bands" at --writer 8 "$tmp/north.img" 5
 gives 0 "the image stays" cmp "$tmp/north.img" "$tmp/before.img"
 gives 0 "what show prints can be set" "$san/bands" set "$tmp/north.img" "$tmp/again.txt"
 
-# What a table file holds, the status, and the message.
+# What a table file holds, the status, and the message; the image stays byte for byte.
+cp "$tmp/north.img" "$tmp/before.img"
 bad() {
     printf "$1" > "$tmp/bad.txt"
     says "bad.txt:*$3" "$2" "a table: $4" "$san/bands" set "$tmp/north.img" "$tmp/bad.txt"
+    cmp -s "$tmp/north.img" "$tmp/before.img"; report $? "a table: $4: the image stays"
 }
 bad '' 1 ' no rows' "empty"
 bad '# nothing\n' 1 ' no rows' "comments only"
@@ -85,7 +87,7 @@ says "set takes an image and a table" 2 "set without a table" "$san/bands" set x
 says "set, show or at" 2 "no command" "$san/bands"
 says "unknown option" 2 "--frob" "$san/bands" show --frob
 says "one word too many" 2 "four words" "$san/bands" set a b c
-says "MM takes a whole number" 2 "at x" "$san/bands" at "$tmp/north.img" x
+says "MM takes a whole number from 0 to 9999, not '12x'" 2 "at 12x" "$san/bands" at "$tmp/north.img" 12x
 says "cannot be opened" 3 "a missing image" "$san/bands" show "$tmp/missing.img"
 says "cannot be opened" 3 "a missing table" "$san/bands" set "$tmp/north.img" "$tmp/missing.txt"
 says "no image" 3 "no image" "$san/bands" show "$tmp/table.txt"
@@ -106,7 +108,9 @@ says "hold something else" 3 "the station on one with other bytes for a pump" "$
 gives 0 "the image stays" cmp "$tmp/other.img" "$tmp/before.img"
 says "no table is set" 1 "bands by the writer that has the right" "$san/bands" show "$tmp/station.img"
 says "writer 2 has no right to read homes 12 to 14; writer 1 has" 1 "bands, a writer without rights" "$san/bands" show --writer 2 "$tmp/station.img"
+cp "$tmp/station.img" "$tmp/before.img"
 says "writer 0 has no right to store to homes 12 to 14; writer 1 has" 1 "set, a writer without rights" "$san/bands" set --writer 0 "$tmp/station.img" "$tmp/table.txt"
+gives 0 "the image stays" cmp "$tmp/station.img" "$tmp/before.img"
 gives 0 "set in the station's image" "$san/bands" set "$tmp/station.img" "$tmp/table.txt"
 gives 0 "the station goes on with it" "$san/station" --cuts 5 --file "$tmp/station.img"
 gives 0 "and the table stays" "$san/bands" at "$tmp/station.img" 899

@@ -75,13 +75,17 @@ END
 fi
 gives 0 "a station's image" "$san/station" --cuts 40 --csv --file "$tmp/station.img"
 sed 1d "$tmp/out" | cut -d, -f1-3 > "$tmp/sheet"
-gives 0 "its pumps by the wear sheet" "$wear" --csv --all --interval 50 --writer 7 "$tmp/station.img"
-sed 1d "$tmp/out" | cut -d, -f3-5 | sort | cmp - "$tmp/sheet" > "$tmp/log" 2>&1; report $? "the same starts and seconds"
+for writer in "" "--writer 7" "--writer=2"; do
+    gives 0 "its pumps by the wear sheet, $writer" "$wear" --csv --all --interval 50 $writer "$tmp/station.img"
+    sed 1d "$tmp/out" | cut -d, -f3-5 | sort | cmp - "$tmp/sheet" > "$tmp/log" 2>&1; report $? "the same starts and seconds"
+done
+says "writer 3 has no right to read the pumps' homes; writer 2 has" 3 "by a writer without the right" "$wear" --writer 3 "$tmp/station.img"
 : | image "$tmp/new.img"
 gives 0 "a sheet of nothing" "$wear" "$tmp/new.img"
 shows '^8 pumps never started'
 gives 0 "a page of nothing" "$wear" --html "$tmp/none.html" --interval 1000000 "$tmp/new.img"
 gives 0 "--help" "$wear" --help
+shows '^usage: kagutin wear '
 gives 0 "--version" "$wear" --version
 shows '^wear (Kagutin) [0-9]'
 
@@ -116,7 +120,10 @@ printf '\001' | dd of="$tmp/flip.img" bs=1 seek=$((64 + 512 * 16 + 64 * 17 + 6))
 : | image "$tmp/small.img" 14
 head -c 9000 "$tmp/north.img" > "$tmp/short.img"
 mkfifo "$tmp/pipe.img"
-set -- "$tmp/north.img" "$tmp/other.img" "$tmp/flip.img" "$tmp/missing.img" "$tmp/small.img" "$tmp/short.img" "$tmp/station.img" \
+cp "$tmp/new.img" "$tmp/locked.img"
+printf '0 read 0\n0 store all\n1 nothing\n2 nothing\n3 nothing\n4 nothing\n5 nothing\n6 nothing\n7 nothing\n' > "$tmp/list.txt"
+gives 0 "a list that hides the pumps" "$san/kagutin" rights set "$tmp/locked.img" "$tmp/list.txt"
+set -- "$tmp/north.img" "$tmp/other.img" "$tmp/flip.img" "$tmp/missing.img" "$tmp/small.img" "$tmp/short.img" "$tmp/locked.img" \
     "$tmp/pipe.img" "$tmp"
 gives 3 "images that cannot be read, as text" timeout 20 "$wear" "$@"
 grep -c '^wear: ' "$tmp/log" | grep -qx 8; report $? "a line for each on standard error"
@@ -133,16 +140,16 @@ unread_all() {
     unread "$1" "$2"
     unread "$1" "not a regular file"
 }
-unread_all text "writer 0 has no right to read the pumps' homes; --writer W chooses another"
+unread_all text "no writer has the right to read the pumps' homes; 'kagutin rights set' can give it"
 shows '^NOT READ, and missing below:$'
 shows '^Wear sheet of .*: 3 of 9 stations, '
 gives 3 "the same as CSV" timeout 20 "$wear" --csv "$@"
-unread_all CSV "writer 0 has no right to read the pumps' homes; --writer W chooses another"
+unread_all CSV "no writer has the right to read the pumps' homes; 'kagutin rights set' can give it"
 shows '^,.*other.img,3,,,,,,,unread,'
 gives 3 "the same as page" timeout 20 "$wear" --html "$tmp/unread.html" "$@"
 cp "$tmp/unread.html" "$tmp/out"
-unread_all page "writer 0 has no right to read the pumps&#39; homes; --writer W chooses another"
-says "no right to read the pumps' homes" 3 "nothing can be read" "$wear" "$tmp/station.img"
+unread_all page "no writer has the right to read the pumps&#39; homes; &#39;kagutin rights set&#39; can give it"
+says "the right to read the pumps' homes" 3 "nothing can be read" "$wear" "$tmp/locked.img"
 [ ! -s "$tmp/out" ] && [ "$(wc -l < "$tmp/log")" -eq 1 ]; report $? "and there is no sheet"
 
 # --- one image twice ---
@@ -273,12 +280,12 @@ fi
 
 # --- options ---
 says "an image is expected" 2 "no image" "$wear"
-says "whole hours from 1 to 1000000" 2 "--interval 0" "$wear" --interval 0 x
-says "whole hours from 1 to 1000000" 2 "--interval=1.5" "$wear" --interval=1.5 x
-says "takes a number" 2 "--interval at the end" "$wear" x --interval
-says "takes a file name" 2 "--html at the end" "$wear" x --html
-says "takes a file name" 2 "--html=" "$wear" --html= x
-says "takes a file name" 2 "--csv=" "$wear" --csv= x
+says "--interval takes a whole number from 1 to 1000000" 2 "--interval 0" "$wear" --interval 0 x
+says "--interval takes a whole number from 1 to 1000000" 2 "--interval=1.5" "$wear" --interval=1.5 x
+says "takes a value" 2 "--interval at the end" "$wear" x --interval
+says "takes a value" 2 "--html at the end" "$wear" x --html
+says "takes a value" 2 "--html=" "$wear" --html= x
+says "takes a value" 2 "--csv=" "$wear" --csv= x
 says "takes no value" 2 "--all=yes" "$wear" --all=yes x
 says "takes a day" 2 "--date 2026-13-01" "$wear" --date 2026-13-01 x
 says "number from 0 to 7" 2 "--writer=8" "$wear" --writer=8 x

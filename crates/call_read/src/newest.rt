@@ -2,7 +2,7 @@
 use model::State;
 use model::Writer;
 ghost use mathlib.Core.Path.{_≡_};
-ghost use Prim.Native.Nat.{_*_, _≤_, _<_};
+ghost use Prim.Native.Nat.{_*_, _^_, _≤_, _<_};
 ghost use lib.ListN.{length};
 ghost use Rattle.model.specs.State.{stateOf, nextPosition};
 ghost use Rattle.log_search.specs.Codes.{codeOf};
@@ -11,7 +11,7 @@ ghost use Rattle.call_read.specs.Newest.{ownEntry, keptEntry, seenEntry}
 
 // The newest entry for a home in a writer's open transaction.
 fn own_entry(log: &[u8], st: State, r: Writer, home: u64) -> u64
-    requires { ⌜ Searchable (now log) st × (3 ≤ r .mode → (7 * st .start ≤ r .first) × (r .first < nextPosition st)) ⌝ }
+    requires { ⌜ Searchable (now log) st × (3 ≤ r .mode → (7 * st .start ≤ r .first) × (r .first < nextPosition st)) × (home < 2 ^ 16) ⌝ }
     ensures { λ x. ⌜ x ≡ codeOf (ownEntry (now (log .entry)) st r home) ⌝ }
 {
     if !base_state::has_logged(r) {

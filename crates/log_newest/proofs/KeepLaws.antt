@@ -65,9 +65,9 @@ displaced-lt word = omega (arith, field-lt word 57 1)
 home-lt : (word : ℕ) → homeField word < 2 ^ 16
 home-lt word = omega (arith, field-lt word 2 12, field-lt word 53 4)
 
-pub plain-next : (plain back : ℕ) → plain ≡ entryWord 0 back → plain + 0x4000 ≡ entryWord 0 (back + 1)
+pub plain-next : (plain back k : ℕ) → plain ≡ entryWord 0 back → plain + 0x4000 * k ≡ entryWord 0 (back + k)
 unfolding entryWord tagWord
-plain-next plain back e = omega (arith, e)
+plain-next plain back k e = omega (arith, e)
 
 -- the sign of a byte once the turn is added to its top bit
 module _ (b turn : ℕ) (h : turn < 2) where
@@ -105,26 +105,32 @@ module _ (group : List ℕ) (turn k word plain position base homes first : ℕ) 
           rw (← word-fits group turn k z, ← w) (kept-other word position base homes first newest _ refl (law (position - first) (f .word) (omega arith)))
 
   -- its home is known
-  pub plain-kept : (bit home : ℕ) (after : List ℕ) → bit ≡ topBit (part group (64 + 64 * k) 64) → bit ≡ turn → homes ≤ 65535 → home < homes
-      → ((back : ℕ) → plain ≡ entryWord 0 back → back < 2 ^ 13 → word ≡ withDisplaced (entryWord (homeField word) back) (displaced word))
-      → ((h back b : ℕ) → h < 2 ^ 16 → back < 2 ^ 13 → b < 2 → plain ≡ entryWord 0 back → word ≡ withDisplaced (entryWord h back) b → home ≡ h)
+  pub home-kept : (bit home : ℕ) (after : List ℕ) → bit ≡ topBit (part group (64 + 64 * k) 64) → bit ≡ turn → home < 2 ^ 16 → home < homes
+      → ((back : ℕ) → plain ≡ entryWord 0 back → back < 2 ^ 13 → word ≡ withDisplaced (entryWord home back) (displaced word))
       → after ≡ keep newest home position → after ≡ taking first keepAt position (readTag (wordThere group turn k) position base homes) newest
-  plain-kept bit home after e z m l shape law q =
+  home-kept bit home after e z h l shape q =
       let n = f .near in
       let g = f .from in
       let s = f .start in
       let back : ℕ = position - first in
       let t : back < 2 ^ 13 = omega arith in
-      let b : displaced word < 2 = displaced-lt word in
-      let h : homeField word < 2 ^ 16 = home-lt word in
-      let x : word ≡ withDisplaced (entryWord (homeField word) back) (displaced word) = shape back (f .word) t in
-      let y : home ≡ homeField word = law (homeField word) back (displaced word) h t b (f .word) x in
       let r : readTag word position base homes ≡ Entry home (position - back) =
-      ap (λ (v : ℕ). readTag v position base homes) x
-      ∙ read-displaced (entryWord (homeField word) back) (displaced word) (entry-fits (homeField word) back h t) b position base homes
-      ∙ read-entry (homeField word) back position base homes h t (omega arith) (omega arith)
-      ∙ ap (λ (v : ℕ). Entry v (position - back)) (sym y) in
+      ap (λ (v : ℕ). readTag v position base homes) (shape back (f .word) t)
+      ∙ read-displaced (entryWord home back) (displaced word) (entry-fits home back h t) (displaced-lt word) position base homes
+      ∙ read-entry home back position base homes h t l (omega arith) in
       rw (← word-fits group turn k (sym e ∙ z), ← w) (q ∙ sym (taking-entry first keepAt position home (position - back) _ newest r (omega arith) g))
+
+  pub plain-kept : (bit home : ℕ) (after : List ℕ) → bit ≡ topBit (part group (64 + 64 * k) 64) → bit ≡ turn → homes ≤ 65535 → home < homes
+      → ((back : ℕ) → plain ≡ entryWord 0 back → back < 2 ^ 13 → word ≡ withDisplaced (entryWord (homeField word) back) (displaced word))
+      → ((h back b : ℕ) → h < 2 ^ 16 → back < 2 ^ 13 → b < 2 → plain ≡ entryWord 0 back → word ≡ withDisplaced (entryWord h back) b → home ≡ h)
+      → after ≡ keep newest home position → after ≡ taking first keepAt position (readTag (wordThere group turn k) position base homes) newest
+  plain-kept bit home after e z m l shape law q =
+      home-kept bit home after e z (omega arith) l
+      (λ back p t.
+      let x = shape back p t in
+      let y : home ≡ homeField word = law (homeField word) back (displaced word) (home-lt word) t (displaced-lt word) p x in
+      x ∙ ap (λ (v : ℕ). withDisplaced (entryWord v back) (displaced word)) (sym y))
+      q
 
 -- after a word that was left
 pub kept-after : (first position : ℕ) (t : Tag) (newest middle after : List ℕ) → after ≡ taking first keepAt position t middle → middle ≡ newest

@@ -1,13 +1,49 @@
 // Commit's pass over a group's tags: all seven where they are plain, or from one tag on to another.
+use crate::near::near_homes;
 use crate::words::keep_entry;
-use crate::words::keep_plain;
+use crate::words::keep_near;
 use crate::words::keep_word;
 ghost use mathlib.Core.Path.{_≡_};
+ghost use mathlib.Core.Bool.{true, false};
 ghost use mathlib.Core.List.{List};
-ghost use Prim.Native.Nat.{ℕ, _+_, _*_, _^_, _≤_, _<_};
+ghost use Prim.Native.Nat.{ℕ, _+_, _-_, _*_, _^_, _≤_, _<_};
 ghost use lib.ListN.{length};
+ghost use Rattle.model.specs.Tag.{entryWord};
 ghost use Rattle.model.specs.Layout.{turnOf, entryIn};
 ghost use Rattle.log_newest.specs.Keeping.{keptOver, ValidFor};
+
+// Keeps the transaction's entry at tag `k` of a valid group, if it is plain, where those before are taken; returns whether it has taken the tag. `plain`
+// is the plain word of the group's first tag.
+fn keep_next(
+    group: &[u8],
+    homes: u64,
+    n: u64,
+    turn: u64,
+    first: u64,
+    k: usize,
+    plain: u64,
+    near: u64,
+    newest: &mut [u8],
+) -> bool
+    requires { ⌜ (length (now group) ≡ 512) × (length (now newest) ≡ 8 * homes) × (homes ≤ 65535) × (n < 2 ^ 60) × (first ≤ 7 * n)
+        × (7 * n + 7 ≤ first + 7168) × (turn < 2) × (k < 7) × (plain ≡ entryWord 0 (7 * n - first)) × (near ≤ homes) × (near ≤ 4096) ⌝ }
+    ensures { λ r. ⌜ (r ≡ false → now (newest .exit) ≡ now (newest .entry)) ⌝ }
+    ensures { λ r. ⌜ (r ≡ true → (groups start : ℕ) (before : List ℕ) → ValidFor (now (group .entry)) groups start n turn first
+        → now (newest .entry) ≡ keptOver (entryIn (now (group .entry)) groups homes start) first (7 * n) k before
+        → now (newest .exit) ≡ keptOver (entryIn (now (group .entry)) groups homes start) first (7 * n) (k + 1) before) ⌝ }
+{
+    let position = 7 * n + k as u64;
+    keep_near(
+        group,
+        turn,
+        k,
+        plain + 0x4000 * k as u64,
+        position,
+        near,
+        homes,
+        newest,
+    )
+}
 
 // Keeps the transaction's entries of a valid group one after the other, as long as they are plain; returns how many tags it has taken.
 fn keep_seven(group: &[u8], homes: u64, n: u64, turn: u64, first: u64, newest: &mut [u8]) -> usize
@@ -17,18 +53,30 @@ fn keep_seven(group: &[u8], homes: u64, n: u64, turn: u64, first: u64, newest: &
         × ((groups start : ℕ) → ValidFor (now (group .entry)) groups start n turn first → now (newest .exit)
         ≡ keptOver (entryIn (now (group .entry)) groups homes start) first (7 * n) r (now (newest .entry))) ⌝ }
 {
-    let mut position = 7 * n;
-    let mut plain = base_codec::entry_word(0, position - first);
-    let mut k: usize = 0;
-    while k < 7 {
-        if !keep_plain(group, turn, k, plain, position, homes, newest) {
-            return k;
-        }
-        position += 1;
-        plain += 0x4000;
-        k += 1;
+    let plain = base_codec::entry_word(0, 7 * n - first);
+    let near = near_homes(homes);
+    if !keep_next(group, homes, n, turn, first, 0, plain, near, newest) {
+        return 0;
     }
-    k
+    if !keep_next(group, homes, n, turn, first, 1, plain, near, newest) {
+        return 1;
+    }
+    if !keep_next(group, homes, n, turn, first, 2, plain, near, newest) {
+        return 2;
+    }
+    if !keep_next(group, homes, n, turn, first, 3, plain, near, newest) {
+        return 3;
+    }
+    if !keep_next(group, homes, n, turn, first, 4, plain, near, newest) {
+        return 4;
+    }
+    if !keep_next(group, homes, n, turn, first, 5, plain, near, newest) {
+        return 5;
+    }
+    if !keep_next(group, homes, n, turn, first, 6, plain, near, newest) {
+        return 6;
+    }
+    7
 }
 
 // The same for a group of the log's range, none where it is not the valid group with number `n`: its head is asked once.

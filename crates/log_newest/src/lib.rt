@@ -1,6 +1,7 @@
 // The newest positions: a strip with, for each home, the position of its newest committed entry, in eight bytes, or all ones for none.
 mod commits;
 mod groups;
+mod near;
 mod positions;
 mod words;
 

@@ -1,7 +1,8 @@
 // The strip of newest positions: read, changed, emptied, and rid of what lies before a new start.
 ghost use mathlib.Core.Path.{_≡_};
-ghost use mathlib.Core.Bool.{cond};
-ghost use Prim.Native.Nat.{_+_, _*_, _≤_};
+ghost use mathlib.Core.Bool.{true, cond};
+ghost use mathlib.Core.List.{List};
+ghost use Prim.Native.Nat.{ℕ, _+_, _*_, _≤_, _<_};
 ghost use lib.Dec.{ltb};
 ghost use lib.ListN.{length};
 ghost use Rattle.model.specs.Newest.{noPosition, keptFor, keep, nothingKept, forget};
@@ -51,14 +52,58 @@ fn forget_one(newest: &mut [u8], bound: u64, home: usize)
     keep(newest, home, NO_POSITION)
 }
 
-// The same for the first `homes` homes.
+// The same for the homes from `from` to below `upto`.
+fn forget_to(newest: &mut [u8], bound: u64, from: usize, upto: usize)
+    requires { ⌜ (from ≤ upto) × (8 * upto ≤ length (now newest)) ⌝ }
+    ensures { λ _. ⌜ ((before : List ℕ) → now (newest .entry) ≡ forget before bound from → now (newest .exit) ≡ forget before bound upto) ⌝ }
+{
+    let mut home = from;
+    while home < upto {
+        forget_one(newest, bound, home);
+        home += 1;
+    }
+}
+
+// Whether the positions kept for the eight homes from `home` on all lie from a bound on.
+fn eight_from(newest: &[u8], bound: u64, home: usize) -> bool
+    requires { ⌜ 8 * home + 64 ≤ length (now newest) ⌝ }
+    ensures { λ r. ⌜ (r ≡ true → (k : ℕ) → k < 8 → bound ≤ keptFor (now (newest .entry)) (home + k)) ⌝ }
+{
+    if kept(newest, home) < bound {
+        return false;
+    }
+    if kept(newest, home + 1) < bound {
+        return false;
+    }
+    if kept(newest, home + 2) < bound {
+        return false;
+    }
+    if kept(newest, home + 3) < bound {
+        return false;
+    }
+    if kept(newest, home + 4) < bound {
+        return false;
+    }
+    if kept(newest, home + 5) < bound {
+        return false;
+    }
+    if kept(newest, home + 6) < bound {
+        return false;
+    }
+    kept(newest, home + 7) >= bound
+}
+
+// Keeps no position any more for the first `homes` homes where it lies before a bound, eight at a time.
 pub fn forget(newest: &mut [u8], bound: u64, homes: usize)
     requires { ⌜ 8 * homes ≤ length (now newest) ⌝ }
     ensures { λ _. ⌜ now (newest .exit) ≡ forget (now (newest .entry)) bound homes ⌝ }
 {
     let mut home: usize = 0;
-    while home < homes {
-        forget_one(newest, bound, home);
-        home += 1;
+    while home + 8 <= homes {
+        if !eight_from(newest, bound, home) {
+            forget_to(newest, bound, home, home + 8);
+        }
+        home += 8;
     }
+    forget_to(newest, bound, home, homes)
 }

@@ -1,4 +1,5 @@
 // Commit's pass at one position: it is kept if an entry of the transaction stands there.
+use crate::near::near_home;
 use crate::positions::keep;
 use model::Tag;
 ghost use mathlib.Core.Path.{_≡_};
@@ -38,7 +39,7 @@ fn other_turn(s: &[u8], at: usize, turn: u64) -> bool
 
 // The same for tag `k` of a group, where it is the transaction's entry that does not close it, which is `plain` but for its home, or has
 // another distance back; returns whether it is one of these. Only an entry of the transaction has its block's turn bit looked at.
-pub fn keep_plain(
+fn keep_plain(
     group: &[u8],
     turn: u64,
     k: usize,
@@ -62,6 +63,38 @@ pub fn keep_plain(
     let home = base_codec::plain_home(word, plain);
     if home >= homes {
         return false;
+    }
+    keep(newest, home as usize, position);
+    true
+}
+
+// The same, for a home below `near` by one comparison; where it is not, `keep_plain` sees to it.
+pub fn keep_near(
+    group: &[u8],
+    turn: u64,
+    k: usize,
+    plain: u64,
+    position: u64,
+    near: u64,
+    homes: u64,
+    newest: &mut [u8],
+) -> bool
+    requires { ⌜ (length (now group) ≡ 512) × (k < 7) × (length (now newest) ≡ 8 * homes) × (homes ≤ 65535) × (turn < 2) × (near ≤ homes)
+        × (near ≤ 4096) ⌝ }
+    ensures { λ r. ⌜ (r ≡ false → now (newest .exit) ≡ now (newest .entry)) ⌝ }
+    ensures { λ r. ⌜ (r ≡ true → (first base : ℕ) → PlainFor plain first base position → now (newest .exit)
+        ≡ taking first keepAt position (readTag (wordThere (now (group .entry)) turn k) position base homes) (now (newest .entry))) ⌝ }
+{
+    let word = base_codec::number(group, 8 + 8 * k, 8);
+    if base_codec::other_back(word, plain) {
+        return true;
+    }
+    let home = near_home(word, plain);
+    if home >= near {
+        return keep_plain(group, turn, k, plain, position, homes, newest);
+    }
+    if other_turn(group, 64 + 64 * k, turn) {
+        return true;
     }
     keep(newest, home as usize, position);
     true

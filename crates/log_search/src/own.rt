@@ -1,4 +1,6 @@
-// The newest entry for a home in a writer's open transaction: one pass over the log from the transaction's first position on.
+// The newest entry for a home in a writer's open transaction: one pass over the log from its end back to the transaction's first position.
+use crate::sought::none_sought;
+use crate::sought::sought_bits;
 use base_codec::GROUP_SIZE;
 use base_codec::HEADER_SIZE;
 use model::Tag;
@@ -82,7 +84,33 @@ fn note_group(
     latest
 }
 
-// The newest entry for a home, as its position + 1, 0 for none, of the open transaction with first position `first`, below position `end`.
+// The newest entry for a home of the transaction among all seven of a group, as its position + 1, 0 for none. Where none of the tags has the
+// home and the distance of such an entry, nothing else of the group is looked at.
+fn note_seven(
+    group: &[u8],
+    groups: u64,
+    homes: u64,
+    start: u64,
+    n: u64,
+    turn: u64,
+    first: u64,
+    home: u64,
+) -> u64
+    requires { ⌜ (length (now group) ≡ 512) × (groups ≤ 1024) × (start ≤ 2 ^ 47) × (n < start + 1024) × (turn ≡ turnOf groups n)
+        × (7 * start ≤ first) × (first ≤ 7 * n + 7) × (home < 2 ^ 16) ⌝ }
+    ensures { λ r. ⌜ r ≡ noted (entryIn (now (group .entry)) groups homes start) home first (7 * n) 7 0 ⌝ }
+{
+    let position = 7 * n;
+    if first <= position {
+        if none_sought(group, sought_bits(home, position - first)) {
+            return 0;
+        }
+    }
+    note_group(group, groups, homes, start, n, turn, 7, first, home, 0)
+}
+
+// The newest entry for a home, as its position + 1, 0 for none, of the open transaction with first position `first`, below position `end`: the
+// last group that has one is the first that is looked at.
 pub fn newest_own(
     log: &[u8],
     groups: u64,
@@ -92,33 +120,37 @@ pub fn newest_own(
     end: u64,
     home: u64,
 ) -> u64
-    requires { ⌜ Stretch (now log) groups start first end ⌝ }
+    requires { ⌜ Stretch (now log) groups start first end × (home < 2 ^ 16) ⌝ }
     ensures { λ r. ⌜ r ≡ codeOf (newestIn (entryAt (now (log .entry)) groups homes start) home
         (members (entryAt (now (log .entry)) groups homes start) first (7 * start) (end - 7 * start))) ⌝ }
 {
-    let mut newest = 0;
-    let mut number = first / 7;
+    let lowest = first / 7;
+    let mut number = (end - 1) / 7;
     let mut at = log_scan::first_slot(number, groups);
-    let mut left = end - 7 * number;
-    while left > 0 {
+    let m = (end - 7 * number) as usize;
+    let from = HEADER_SIZE + GROUP_SIZE * at.slot as usize;
+    let group = &log[from..from + GROUP_SIZE];
+    let mut newest = note_group(
+        group,
+        groups,
+        homes,
+        start,
+        number,
+        at.turn,
+        m,
+        first,
+        home,
+        0,
+    );
+    while lowest < number {
+        if newest != 0 {
+            return newest;
+        }
+        at = log_scan::previous_slot(at, groups);
+        number -= 1;
         let from = HEADER_SIZE + GROUP_SIZE * at.slot as usize;
         let group = &log[from..from + GROUP_SIZE];
-        let m = log_scan::in_group(left);
-        newest = note_group(
-            group,
-            groups,
-            homes,
-            start,
-            number,
-            at.turn,
-            m,
-            first,
-            home,
-            newest,
-        );
-        at = log_scan::next_slot(at, groups);
-        number += 1;
-        left -= m as u64;
+        newest = note_seven(group, groups, homes, start, number, at.turn, first, home);
     }
     newest
 }

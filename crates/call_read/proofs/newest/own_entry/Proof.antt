@@ -18,7 +18,8 @@ next-position-requires c κs = let s = c .before .before .before .pre .0 in omeg
 
 newest-own-requires : tie.Need-newest-own-requires
 newest-own-requires c κs =
-    own-stretch _ _ _ _ _ (c .before .before .before .before .pre .0) (c .before .before .before .before .pre .1) (c .before .before .has-logged .ensures) (not-false _ (c .before .if1 .left)) (c .next-position .ensures)
+    let p = c .before .before .before .before .pre in
+    (own-stretch _ _ _ _ _ (p .0) (p .1) (c .before .before .has-logged .ensures) (not-false _ (c .before .if1 .left)) (c .next-position .ensures), p .2)
 
 returns-2 : tie.Need-returns-2
 returns-2 c =

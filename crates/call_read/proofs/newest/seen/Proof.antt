@@ -1,12 +1,13 @@
 -- `call_read::seen` meets its contract. Assumes nothing.
 use borrow.Author.Needs.{needs}
 use mathlib.Core.Path.{_∙_}
+use native.Mathlib.Omega.{arith}
 use Rattle.call_read.proofs.ReadLaws.{seen-own, seen-kept}
 use Rattle.call_read.proofs.newest.seen.Statement.{statement}
 use Rattle.call_read.proofs.newest.seen.Tie as tie
 
 own-entry-requires : tie.Need-own-entry-requires
-own-entry-requires c κs = (c .before .before .before .pre .0, c .before .before .before .pre .4)
+own-entry-requires c κs = let p = c .before .before .before .pre in (p .0, p .4, omega (arith, p .0 .homes-most, p .5))
 
 returns : tie.Need-returns
 returns c = seen-own _ _ _ _ _ _ (c .before .own-entry .ensures) (c .if1 .taken)

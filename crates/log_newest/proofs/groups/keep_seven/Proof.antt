@@ -1,111 +1,181 @@
--- `log_newest::keep_seven` meets its contract. The loop's invariant: the first `k` tags are taken, and `plain` is the plain word of the next position.
--- Assumes nothing.
+-- `log_newest::keep_seven` meets its contract: each tag takes the pass one further. Assumes nothing.
 use mathlib.Core.Path.{_≡_, refl, sym, _∙_}
-use Prim.Native.Nat.{ℕ, _+_, _-_, _*_, _≤_}
 use native.Mathlib.Omega.{arith}
-use lib.ListN.{length}
 use borrow.Author.Needs.{needs}
 use borrow.Author.Tests.{not-true, not-false}
-use Rattle.model.specs.Tag.{entryWord}
-use Rattle.model.specs.Layout.{entryIn}
-use Rattle.model_laws.proofs.bytes.TagLaws.{entry-fits}
-use Rattle.log_scan.specs.Members.{taking}
-use Rattle.log_scan.proofs.PassLaws.{group-turn}
 use Rattle.log_scan.proofs.MemberPass.{over-before}
-use Rattle.log_newest.specs.Keeping.{keepAt, keptOver, ValidFor}
-use Rattle.log_newest.proofs.KeepLaws.{plain-next}
+use Rattle.log_newest.specs.Keeping.{keepAt}
 use Rattle.log_newest.proofs.groups.keep_seven.Statement.{statement}
 use Rattle.log_newest.proofs.groups.keep_seven.Tie as tie
 
-abbrev Inv-loop : tie.InvT-loop
-Inv-loop group homes n turn first newest₀ position₀ plain₀ k₀ newest position plain k =
-    ((groups start : ℕ) → ValidFor group groups start n turn first → newest ≡ keptOver (entryIn group groups homes start) first (7 * n) k newest₀)
-    × (position ≡ 7 * n + k)
-    × (k ≤ 7)
-    × (plain ≡ entryWord 0 (position - first))
-    × (length newest ≡ 8 * homes)
+mul-entry-word : tie.Need-mul-entry-word
+mul-entry-word c = search needs
 
-abbrev μ-loop : tie.MeasureT-loop
-μ-loop group homes n turn first newest₀ position₀ plain₀ k₀ newest position plain k = 7 - k
+sub-entry-word : tie.Need-sub-entry-word
+sub-entry-word c = search needs
 
-mul-position : tie.Need-mul-position Inv-loop μ-loop
-mul-position c = omega arith
+entry-word-requires : tie.Need-entry-word-requires
+entry-word-requires c κs = search needs
 
-sub-entry-word : tie.Need-sub-entry-word Inv-loop μ-loop
-sub-entry-word c = omega arith
+near-homes-requires : tie.Need-near-homes-requires
+near-homes-requires c κs = tt
 
-entry-word-requires : tie.Need-entry-word-requires Inv-loop μ-loop
-entry-word-requires c κs = (omega arith, omega arith)
+keep-next-requires : tie.Need-keep-next-requires
+keep-next-requires c κs =
+    let p = c .before .before .before .before .before .pre in
+    let n = c .before .near-homes .ensures in
+    (p .0, omega (arith, p .1), p .2, p .3, p .4, p .5, p .6, omega arith, c .before .before .entry-word .ensures, n .0, n .1)
 
-loop-holds : tie.Need-loop-holds Inv-loop μ-loop
-loop-holds c = (λ groups start v. over-before _ keepAt _ _ _ _ (omega arith), omega arith, omega arith, c .entry-word .ensures, omega arith)
+same-length : tie.Need-same-length
+same-length c = omega (arith, c .before .before .before .keep-next .kept)
 
-keep-plain-requires : tie.Need-keep-plain-requires Inv-loop μ-loop
-keep-plain-requires c κs = (omega arith, omega arith, omega arith, omega arith, omega arith)
+returns : tie.Need-returns
+returns c = (
+  omega arith,
+  λ groups start v.
+      c .before .before .before .keep-next .ensures .0 (not-true _ (c .if1 .taken))
+      ∙ over-before _ keepAt _ _ _ _ (omega arith),
+)
 
-same-length : tie.Need-same-length Inv-loop μ-loop
-same-length c = let p = c .before .before .before in omega (arith, p .keep-plain .kept, p .before .before .before .loop .inv .4)
+keep-next-requires-2 : tie.Need-keep-next-requires-2
+keep-next-requires-2 c κs =
+    let p = c .before .before .before .before .before .before .before .before .before .before .pre in
+    let n = c .before .before .before .before .before .before .near-homes .ensures in
+    (p .0, omega (arith, p .1, c .before .before .before .before .keep-next .kept), p .2, p .3, p .4, p .5, p .6, omega arith, c .before .before .before .before .before .before .before .entry-word .ensures, n .0, n .1)
 
-returns : tie.Need-returns Inv-loop μ-loop
-returns c =
-    let p = c .before .before .before in
-    let l = p .before .before .before .loop in
-    (l .inv .2, λ groups start v. p .keep-plain .ensures .0 (not-true _ (c .if1 .taken)) ∙ l .inv .0 groups start v)
+same-length-2 : tie.Need-same-length-2
+same-length-2 c = omega (arith, c .before .before .before .before .before .before .before .before .keep-next .kept, c .before .before .before .keep-next2 .kept)
 
-add-position : tie.Need-add-position Inv-loop μ-loop
-add-position c = omega arith
+returns-2 : tie.Need-returns-2
+returns-2 c = (
+  omega arith,
+  λ groups start v.
+      c .before .before .before .keep-next2 .ensures .0 (not-true _ (c .if2 .taken))
+      ∙ c .before .before .before .before .before .before .before .before .keep-next .ensures .1 (not-false _ (c .before .before .before .before .before .if1 .left)) groups start _ v (over-before _ keepAt _ _ _ _ (omega arith)),
+)
 
-add-plain : tie.Need-add-plain Inv-loop μ-loop
-add-plain c =
-    let l = c .before .before .before .before .before .before .loop in
-    omega (arith, l .inv .3, l .inv .1, entry-fits 0 (l .position - c .before .before .before .before .before .before .before .before .before .before .args .first) (omega arith) (omega arith))
+keep-next-requires-3 : tie.Need-keep-next-requires-3
+keep-next-requires-3 c κs =
+    let p = c .before .before .before .before .before .before .before .before .before .before .before .before .before .before .before .pre in
+    let n = c .before .before .before .before .before .before .before .before .before .before .before .near-homes .ensures in
+    (p .0, omega (arith, p .1, c .before .before .before .before .before .before .before .before .before .keep-next .kept, c .before .before .before .before .keep-next2 .kept), p .2, p .3, p .4, p .5, p .6, omega arith, c .before .before .before .before .before .before .before .before .before .before .before .before .entry-word .ensures, n .0, n .1)
 
-add-k : tie.Need-add-k Inv-loop μ-loop
-add-k c = omega arith
+same-length-3 : tie.Need-same-length-3
+same-length-3 c = omega (arith, c .before .before .before .before .before .before .before .before .before .before .before .before .before .keep-next .kept, c .before .before .before .before .before .before .before .before .keep-next2 .kept, c .before .before .before .keep-next3 .kept)
 
-loop-less : tie.Need-loop-less Inv-loop μ-loop
-loop-less c = omega arith
+returns-3 : tie.Need-returns-3
+returns-3 c = (
+  omega arith,
+  λ groups start v.
+      c .before .before .before .keep-next3 .ensures .0 (not-true _ (c .if3 .taken))
+      ∙ c .before .before .before .before .before .before .before .before .keep-next2 .ensures .1 (not-false _ (c .before .before .before .before .before .if2 .left)) groups start _ v (c .before .before .before .before .before .before .before .before .before .before .before .before .before .keep-next .ensures .1 (not-false _ (c .before .before .before .before .before .before .before .before .before .before .if1 .left)) groups start _ v (over-before _ keepAt _ _ _ _ (omega arith))),
+)
 
-loop-again : tie.Need-loop-again Inv-loop μ-loop
-loop-again c =
-    let p = c .before .before .before in
-    let l = p .before .before .before .loop in
-    let e : l .position + 1 - p .before .before .before .before .before .before .before .args .first
-    ≡ l .position - p .before .before .before .before .before .before .before .args .first + 1 = omega arith in (
-      λ groups start v.
-          group-turn (taking _ keepAt) _ _ _ _ _ _ _ _ _ _ _ _ (v .valid) (v .fits) (omega arith) (l .inv .1) refl
-          (p .keep-plain .ensures .1 (not-false _ (c .if1 .left)) _ _
-          (record { word = l .inv .3; start = v .from; from = omega arith; near = omega arith }))
-          (l .inv .0 groups start v),
-      omega arith,
-      omega arith,
-      rw e (plain-next _ _ (l .inv .3)),
-      omega (arith, p .keep-plain .kept, l .inv .4),
-    )
+keep-next-requires-4 : tie.Need-keep-next-requires-4
+keep-next-requires-4 c κs =
+    let p = c .before .before .before .before .before .before .before .before .before .before .before .before .before .before .before .before .before .before .before .before .pre in
+    let n = c .before .before .before .before .before .before .before .before .before .before .before .before .before .before .before .before .near-homes .ensures in
+    (p .0, omega (arith, p .1, c .before .before .before .before .before .before .before .before .before .before .before .before .before .before .keep-next .kept, c .before .before .before .before .before .before .before .before .before .keep-next2 .kept, c .before .before .before .before .keep-next3 .kept), p .2, p .3, p .4, p .5, p .6, omega arith, c .before .before .before .before .before .before .before .before .before .before .before .before .before .before .before .before .before .entry-word .ensures, n .0, n .1)
 
-same-length-2 : tie.Need-same-length-2 Inv-loop μ-loop
-same-length-2 c = omega (arith, c .before .loop .inv .4)
+same-length-4 : tie.Need-same-length-4
+same-length-4 c = omega (arith, c .before .before .before .before .before .before .before .before .before .before .before .before .before .before .before .before .before .before .keep-next .kept, c .before .before .before .before .before .before .before .before .before .before .before .before .before .keep-next2 .kept, c .before .before .before .before .before .before .before .before .keep-next3 .kept, c .before .before .before .keep-next4 .kept)
 
-returns-2 : tie.Need-returns-2 Inv-loop μ-loop
-returns-2 c = (c .before .loop .inv .2, c .before .loop .inv .0)
+returns-4 : tie.Need-returns-4
+returns-4 c = (
+  omega arith,
+  λ groups start v.
+      c .before .before .before .keep-next4 .ensures .0 (not-true _ (c .if4 .taken))
+      ∙ c .before .before .before .before .before .before .before .before .keep-next3 .ensures .1 (not-false _ (c .before .before .before .before .before .if3 .left)) groups start _ v (c .before .before .before .before .before .before .before .before .before .before .before .before .before .keep-next2 .ensures .1 (not-false _ (c .before .before .before .before .before .before .before .before .before .before .if2 .left)) groups start _ v (c .before .before .before .before .before .before .before .before .before .before .before .before .before .before .before .before .before .before .keep-next .ensures .1 (not-false _ (c .before .before .before .before .before .before .before .before .before .before .before .before .before .before .before .if1 .left)) groups start _ v (over-before _ keepAt _ _ _ _ (omega arith)))),
+)
+
+keep-next-requires-5 : tie.Need-keep-next-requires-5
+keep-next-requires-5 c κs =
+    let p = c .before .before .before .before .before .before .before .before .before .before .before .before .before .before .before .before .before .before .before .before .before .before .before .before .before .pre in
+    let n = c .before .before .before .before .before .before .before .before .before .before .before .before .before .before .before .before .before .before .before .before .before .near-homes .ensures in
+    (p .0, omega (arith, p .1, c .before .before .before .before .before .before .before .before .before .before .before .before .before .before .before .before .before .before .before .keep-next .kept, c .before .before .before .before .before .before .before .before .before .before .before .before .before .before .keep-next2 .kept, c .before .before .before .before .before .before .before .before .before .keep-next3 .kept, c .before .before .before .before .keep-next4 .kept), p .2, p .3, p .4, p .5, p .6, omega arith, c .before .before .before .before .before .before .before .before .before .before .before .before .before .before .before .before .before .before .before .before .before .before .entry-word .ensures, n .0, n .1)
+
+same-length-5 : tie.Need-same-length-5
+same-length-5 c = omega (arith, c .before .before .before .before .before .before .before .before .before .before .before .before .before .before .before .before .before .before .before .before .before .before .before .keep-next .kept, c .before .before .before .before .before .before .before .before .before .before .before .before .before .before .before .before .before .before .keep-next2 .kept, c .before .before .before .before .before .before .before .before .before .before .before .before .before .keep-next3 .kept, c .before .before .before .before .before .before .before .before .keep-next4 .kept, c .before .before .before .keep-next5 .kept)
+
+returns-5 : tie.Need-returns-5
+returns-5 c = (
+  omega arith,
+  λ groups start v.
+      c .before .before .before .keep-next5 .ensures .0 (not-true _ (c .if5 .taken))
+      ∙ c .before .before .before .before .before .before .before .before .keep-next4 .ensures .1 (not-false _ (c .before .before .before .before .before .if4 .left)) groups start _ v (c .before .before .before .before .before .before .before .before .before .before .before .before .before .keep-next3 .ensures .1 (not-false _ (c .before .before .before .before .before .before .before .before .before .before .if3 .left)) groups start _ v (c .before .before .before .before .before .before .before .before .before .before .before .before .before .before .before .before .before .before .keep-next2 .ensures .1 (not-false _ (c .before .before .before .before .before .before .before .before .before .before .before .before .before .before .before .if2 .left)) groups start _ v (c .before .before .before .before .before .before .before .before .before .before .before .before .before .before .before .before .before .before .before .before .before .before .before .keep-next .ensures .1 (not-false _ (c .before .before .before .before .before .before .before .before .before .before .before .before .before .before .before .before .before .before .before .before .if1 .left)) groups start _ v (over-before _ keepAt _ _ _ _ (omega arith))))),
+)
+
+keep-next-requires-6 : tie.Need-keep-next-requires-6
+keep-next-requires-6 c κs =
+    let p = c .before .before .before .before .before .before .before .before .before .before .before .before .before .before .before .before .before .before .before .before .before .before .before .before .before .before .before .before .before .before .pre in
+    let n = c .before .before .before .before .before .before .before .before .before .before .before .before .before .before .before .before .before .before .before .before .before .before .before .before .before .before .near-homes .ensures in
+    (p .0, omega (arith, p .1, c .before .before .before .before .before .before .before .before .before .before .before .before .before .before .before .before .before .before .before .before .before .before .before .before .keep-next .kept, c .before .before .before .before .before .before .before .before .before .before .before .before .before .before .before .before .before .before .before .keep-next2 .kept, c .before .before .before .before .before .before .before .before .before .before .before .before .before .before .keep-next3 .kept, c .before .before .before .before .before .before .before .before .before .keep-next4 .kept, c .before .before .before .before .keep-next5 .kept), p .2, p .3, p .4, p .5, p .6, omega arith, c .before .before .before .before .before .before .before .before .before .before .before .before .before .before .before .before .before .before .before .before .before .before .before .before .before .before .before .entry-word .ensures, n .0, n .1)
+
+same-length-6 : tie.Need-same-length-6
+same-length-6 c = omega (arith, c .before .before .before .before .before .before .before .before .before .before .before .before .before .before .before .before .before .before .before .before .before .before .before .before .before .before .before .before .keep-next .kept, c .before .before .before .before .before .before .before .before .before .before .before .before .before .before .before .before .before .before .before .before .before .before .before .keep-next2 .kept, c .before .before .before .before .before .before .before .before .before .before .before .before .before .before .before .before .before .before .keep-next3 .kept, c .before .before .before .before .before .before .before .before .before .before .before .before .before .keep-next4 .kept, c .before .before .before .before .before .before .before .before .keep-next5 .kept, c .before .before .before .keep-next6 .kept)
+
+returns-6 : tie.Need-returns-6
+returns-6 c = (
+  omega arith,
+  λ groups start v.
+      c .before .before .before .keep-next6 .ensures .0 (not-true _ (c .if6 .taken))
+      ∙ c .before .before .before .before .before .before .before .before .keep-next5 .ensures .1 (not-false _ (c .before .before .before .before .before .if5 .left)) groups start _ v (c .before .before .before .before .before .before .before .before .before .before .before .before .before .keep-next4 .ensures .1 (not-false _ (c .before .before .before .before .before .before .before .before .before .before .if4 .left)) groups start _ v (c .before .before .before .before .before .before .before .before .before .before .before .before .before .before .before .before .before .before .keep-next3 .ensures .1 (not-false _ (c .before .before .before .before .before .before .before .before .before .before .before .before .before .before .before .if3 .left)) groups start _ v (c .before .before .before .before .before .before .before .before .before .before .before .before .before .before .before .before .before .before .before .before .before .before .before .keep-next2 .ensures .1 (not-false _ (c .before .before .before .before .before .before .before .before .before .before .before .before .before .before .before .before .before .before .before .before .if2 .left)) groups start _ v (c .before .before .before .before .before .before .before .before .before .before .before .before .before .before .before .before .before .before .before .before .before .before .before .before .before .before .before .before .keep-next .ensures .1 (not-false _ (c .before .before .before .before .before .before .before .before .before .before .before .before .before .before .before .before .before .before .before .before .before .before .before .before .before .if1 .left)) groups start _ v (over-before _ keepAt _ _ _ _ (omega arith)))))),
+)
+
+keep-next-requires-7 : tie.Need-keep-next-requires-7
+keep-next-requires-7 c κs =
+    let p = c .before .before .before .before .before .before .before .before .before .before .before .before .before .before .before .before .before .before .before .before .before .before .before .before .before .before .before .before .before .before .before .before .before .before .before .pre in
+    let n = c .before .before .before .before .before .before .before .before .before .before .before .before .before .before .before .before .before .before .before .before .before .before .before .before .before .before .before .before .before .before .before .near-homes .ensures in
+    (p .0, omega (arith, p .1, c .before .before .before .before .before .before .before .before .before .before .before .before .before .before .before .before .before .before .before .before .before .before .before .before .before .before .before .before .before .keep-next .kept, c .before .before .before .before .before .before .before .before .before .before .before .before .before .before .before .before .before .before .before .before .before .before .before .before .keep-next2 .kept, c .before .before .before .before .before .before .before .before .before .before .before .before .before .before .before .before .before .before .before .keep-next3 .kept, c .before .before .before .before .before .before .before .before .before .before .before .before .before .before .keep-next4 .kept, c .before .before .before .before .before .before .before .before .before .keep-next5 .kept, c .before .before .before .before .keep-next6 .kept), p .2, p .3, p .4, p .5, p .6, omega arith, c .before .before .before .before .before .before .before .before .before .before .before .before .before .before .before .before .before .before .before .before .before .before .before .before .before .before .before .before .before .before .before .before .entry-word .ensures, n .0, n .1)
+
+same-length-7 : tie.Need-same-length-7
+same-length-7 c = omega (arith, c .before .before .before .before .before .before .before .before .before .before .before .before .before .before .before .before .before .before .before .before .before .before .before .before .before .before .before .before .before .before .before .before .before .keep-next .kept, c .before .before .before .before .before .before .before .before .before .before .before .before .before .before .before .before .before .before .before .before .before .before .before .before .before .before .before .before .keep-next2 .kept, c .before .before .before .before .before .before .before .before .before .before .before .before .before .before .before .before .before .before .before .before .before .before .before .keep-next3 .kept, c .before .before .before .before .before .before .before .before .before .before .before .before .before .before .before .before .before .before .keep-next4 .kept, c .before .before .before .before .before .before .before .before .before .before .before .before .before .keep-next5 .kept, c .before .before .before .before .before .before .before .before .keep-next6 .kept, c .before .before .before .keep-next7 .kept)
+
+returns-7 : tie.Need-returns-7
+returns-7 c = (
+  omega arith,
+  λ groups start v.
+      c .before .before .before .keep-next7 .ensures .0 (not-true _ (c .if7 .taken))
+      ∙ c .before .before .before .before .before .before .before .before .keep-next6 .ensures .1 (not-false _ (c .before .before .before .before .before .if6 .left)) groups start _ v (c .before .before .before .before .before .before .before .before .before .before .before .before .before .keep-next5 .ensures .1 (not-false _ (c .before .before .before .before .before .before .before .before .before .before .if5 .left)) groups start _ v (c .before .before .before .before .before .before .before .before .before .before .before .before .before .before .before .before .before .before .keep-next4 .ensures .1 (not-false _ (c .before .before .before .before .before .before .before .before .before .before .before .before .before .before .before .if4 .left)) groups start _ v (c .before .before .before .before .before .before .before .before .before .before .before .before .before .before .before .before .before .before .before .before .before .before .before .keep-next3 .ensures .1 (not-false _ (c .before .before .before .before .before .before .before .before .before .before .before .before .before .before .before .before .before .before .before .before .if3 .left)) groups start _ v (c .before .before .before .before .before .before .before .before .before .before .before .before .before .before .before .before .before .before .before .before .before .before .before .before .before .before .before .before .keep-next2 .ensures .1 (not-false _ (c .before .before .before .before .before .before .before .before .before .before .before .before .before .before .before .before .before .before .before .before .before .before .before .before .before .if2 .left)) groups start _ v (c .before .before .before .before .before .before .before .before .before .before .before .before .before .before .before .before .before .before .before .before .before .before .before .before .before .before .before .before .before .before .before .before .before .keep-next .ensures .1 (not-false _ (c .before .before .before .before .before .before .before .before .before .before .before .before .before .before .before .before .before .before .before .before .before .before .before .before .before .before .before .before .before .before .if1 .left)) groups start _ v (over-before _ keepAt _ _ _ _ (omega arith))))))),
+)
+
+same-length-8 : tie.Need-same-length-8
+same-length-8 c = omega (arith, c .before .before .before .before .before .before .before .before .before .before .before .before .before .before .before .before .before .before .before .before .before .before .before .before .before .before .before .before .before .before .before .before .before .keep-next .kept, c .before .before .before .before .before .before .before .before .before .before .before .before .before .before .before .before .before .before .before .before .before .before .before .before .before .before .before .before .keep-next2 .kept, c .before .before .before .before .before .before .before .before .before .before .before .before .before .before .before .before .before .before .before .before .before .before .before .keep-next3 .kept, c .before .before .before .before .before .before .before .before .before .before .before .before .before .before .before .before .before .before .keep-next4 .kept, c .before .before .before .before .before .before .before .before .before .before .before .before .before .keep-next5 .kept, c .before .before .before .before .before .before .before .before .keep-next6 .kept, c .before .before .before .keep-next7 .kept)
+
+returns-8 : tie.Need-returns-8
+returns-8 c = (
+  omega arith,
+  λ groups start v. c .before .before .before .keep-next7 .ensures .1 (not-false _ (c .if7 .left)) groups start _ v (c .before .before .before .before .before .before .before .before .keep-next6 .ensures .1 (not-false _ (c .before .before .before .before .before .if6 .left)) groups start _ v (c .before .before .before .before .before .before .before .before .before .before .before .before .before .keep-next5 .ensures .1 (not-false _ (c .before .before .before .before .before .before .before .before .before .before .if5 .left)) groups start _ v (c .before .before .before .before .before .before .before .before .before .before .before .before .before .before .before .before .before .before .keep-next4 .ensures .1 (not-false _ (c .before .before .before .before .before .before .before .before .before .before .before .before .before .before .before .if4 .left)) groups start _ v (c .before .before .before .before .before .before .before .before .before .before .before .before .before .before .before .before .before .before .before .before .before .before .before .keep-next3 .ensures .1 (not-false _ (c .before .before .before .before .before .before .before .before .before .before .before .before .before .before .before .before .before .before .before .before .if3 .left)) groups start _ v (c .before .before .before .before .before .before .before .before .before .before .before .before .before .before .before .before .before .before .before .before .before .before .before .before .before .before .before .before .keep-next2 .ensures .1 (not-false _ (c .before .before .before .before .before .before .before .before .before .before .before .before .before .before .before .before .before .before .before .before .before .before .before .before .before .if2 .left)) groups start _ v (c .before .before .before .before .before .before .before .before .before .before .before .before .before .before .before .before .before .before .before .before .before .before .before .before .before .before .before .before .before .before .before .before .before .keep-next .ensures .1 (not-false _ (c .before .before .before .before .before .before .before .before .before .before .before .before .before .before .before .before .before .before .before .before .before .before .before .before .before .before .before .before .before .before .if1 .left)) groups start _ v (over-before _ keepAt _ _ _ _ (omega arith)))))))),
+)
 
 pub keep-seven-spec : {M : Type 1} → statement M
 keep-seven-spec =
     tie.close
     (tie.spec
-    Inv-loop
-    μ-loop
-    mul-position
+    mul-entry-word
     sub-entry-word
     entry-word-requires
-    loop-holds
-    keep-plain-requires
+    near-homes-requires
+    keep-next-requires
     same-length
     returns
-    add-position
-    add-plain
-    add-k
-    loop-less
-    loop-again
+    keep-next-requires-2
     same-length-2
-    returns-2)
+    returns-2
+    keep-next-requires-3
+    same-length-3
+    returns-3
+    keep-next-requires-4
+    same-length-4
+    returns-4
+    keep-next-requires-5
+    same-length-5
+    returns-5
+    keep-next-requires-6
+    same-length-6
+    returns-6
+    keep-next-requires-7
+    same-length-7
+    returns-7
+    same-length-8
+    returns-8)

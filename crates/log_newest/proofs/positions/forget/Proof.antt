@@ -1,11 +1,13 @@
 -- `log_newest::forget` meets its contract. The loop's invariant: the first `home` homes have forgotten what lies before the bound. Assumes nothing.
 use mathlib.Core.Path.{_≡_, refl, ap, _∙_}
-use Prim.Native.Nat.{_-_, _≤_}
+use mathlib.Core.Logic.{⊎-elim}
+use Prim.Native.Nat.{_+_, _-_, _≤_}
 use native.Mathlib.Omega.{arith}
 use lib.ListN.{length}
+use borrow.Author.Tests.{not-false}
 use Rattle.model.specs.Newest.{forget}
 use Rattle.model_laws.proofs.state.NewestLaws.{length-forget}
-use Rattle.log_newest.proofs.PositionLaws.{forget-more}
+use Rattle.log_newest.proofs.PositionLaws.{forget-none}
 use Rattle.log_newest.proofs.positions.forget.Statement.{statement}
 use Rattle.log_newest.proofs.positions.forget.Tie as tie
 
@@ -19,8 +21,17 @@ loop-holds : tie.Need-loop-holds Inv-loop μ-loop
 unfolding forget
 loop-holds c = (refl, omega arith, refl)
 
-forget-one-requires : tie.Need-forget-one-requires Inv-loop μ-loop
-forget-one-requires c κs = omega arith
+add-loop : tie.Need-add-loop Inv-loop μ-loop
+add-loop c = omega arith
+
+eight-from-requires : tie.Need-eight-from-requires Inv-loop μ-loop
+eight-from-requires c κs = omega arith
+
+add-forget-to : tie.Need-add-forget-to Inv-loop μ-loop
+add-forget-to c = omega arith
+
+forget-to-requires : tie.Need-forget-to-requires Inv-loop μ-loop
+forget-to-requires c κs = (omega arith, omega arith)
 
 add-home : tie.Need-add-home Inv-loop μ-loop
 add-home c = omega arith
@@ -30,18 +41,20 @@ loop-less c = omega arith
 
 loop-again : tie.Need-loop-again Inv-loop μ-loop
 loop-again c =
-    let l = c .before .before .before .before .before .loop in
-    let e = forget-more _ _ _ _ _ (l .inv .0) (c .before .before .forget-one .ensures) in
+    let l = c .before .before .before .before .loop in
+    let a = c .before .before .before .before .before .before .args in
+    let e : c .if1 .newest ≡ forget (a .newest .now) (a .bound) (l .home + 8) =
+    ⊎-elim (λ w. w .5 ∙ w .2 .ensures _ (l .inv .0)) (λ w. w .1 ∙ forget-none _ _ _ _ 8 (c .before .eight-from .ensures (not-false _ (w .0 .left))) (l .inv .0)) (c .if1 .came) in
     (e, omega arith, ap length e ∙ length-forget _ _ _)
 
+forget-to-requires-2 : tie.Need-forget-to-requires-2 Inv-loop μ-loop
+forget-to-requires-2 c κs = (omega arith, omega arith)
+
 same-length : tie.Need-same-length Inv-loop μ-loop
-same-length c = omega arith
+same-length c = omega (arith, c .before .before .forget-to2 .kept, c .before .before .before .before .before .loop .inv .2)
 
 returns : tie.Need-returns Inv-loop μ-loop
-returns c =
-    let l = c .before .loop in
-    let e : l .home ≡ c .before .before .before .args .homes = omega arith in
-    rw (← e) (l .inv .0)
+returns c = c .before .before .forget-to2 .ensures _ (c .before .before .before .before .before .loop .inv .0)
 
 pub forget-spec : {M : Type 1} → statement M
 forget-spec =
@@ -50,9 +63,13 @@ forget-spec =
     Inv-loop
     μ-loop
     loop-holds
-    forget-one-requires
+    add-loop
+    eight-from-requires
+    add-forget-to
+    forget-to-requires
     add-home
     loop-less
     loop-again
+    forget-to-requires-2
     same-length
     returns)

@@ -1,0 +1,232 @@
+/*
+ * The longest waits: wait_cost CASE fills a log as the case says and then makes the one call, or the calls of a whole round,
+ * inside counted(), whose instructions callgrind counts (tests/costs/wait-cost.sh). Without words it lists the cases, each with
+ * its call, the positions of the log that this call goes over, and the most instructions it may take; 0 for no limit.
+ */
+#include <stdbool.h>
+#include <stdio.h>
+#include <stdlib.h>
+#include <string.h>
+
+#include "kagutin.h"
+
+enum { MOST_GROUPS = KAGUTIN_MAX_GROUPS, MOST_HOMES = 65535, PLACES = 7, OWNER = 1, OTHER = 0, TWO_HOMES = 20, SMALL_STEP = 8 };
+
+enum call { SETTLE, STEP, ROUND, READ, COMMIT, TRIM };
+
+/* How the log is filled: commits of four blocks; commits of four blocks by eight writers in turn; a log only damage makes, each
+   entry closing a transaction that began at the first; one entry of an open transaction and then another writer's, for all homes
+   or two; the open transaction's own, for all homes or two; one commit. */
+enum fill { COMMITS, EIGHT, SHARED, OTHERS, OTHERS_TWO, OWN, OWN_TWO, ONE };
+
+static const struct wait {
+    const char *name;
+    enum call call;
+    enum fill fill;
+    size_t groups, homes;
+    unsigned long most;
+} waits[] = {
+    {"settle-1024-4096", SETTLE, EIGHT, 1024, 4096, 0},
+    {"step-1024-4096", STEP, EIGHT, 1024, 4096, 0},
+    {"round-1024-4096", ROUND, EIGHT, 1024, 4096, 0},
+    {"settle-1024-64", SETTLE, EIGHT, 1024, 64, 0},
+    {"step-1024-64", STEP, EIGHT, 1024, 64, 0},
+    {"round-1024-64", ROUND, EIGHT, 1024, 64, 0},
+    {"settle-64-64", SETTLE, EIGHT, 64, 64, 0},
+    {"step-64-64", STEP, EIGHT, 64, 64, 0},
+    {"round-64-64", ROUND, EIGHT, 64, 64, 0},
+    {"settle-shared-64", SETTLE, SHARED, 1024, 64, 0},
+    {"step-shared-64", STEP, SHARED, 1024, 64, 0},
+    {"settle-shared-4096", SETTLE, SHARED, 1024, 4096, 0},
+    {"step-shared-4096", STEP, SHARED, 1024, 4096, 0},
+    {"read-others", READ, OTHERS, 1024, 4096, 0},
+    {"read-others-home", READ, OTHERS_TWO, 1024, 4096, 0},
+    {"read-own", READ, OWN, 1024, 4096, 0},
+    {"read-own-home", READ, OWN_TWO, 1024, 4096, 0},
+    {"commit-others", COMMIT, OTHERS, 1024, 4096, 0},
+    {"commit-own", COMMIT, OWN, 1024, 4096, 0},
+    {"trim-few", TRIM, ONE, 1024, 65535, 0},
+    {"trim-all", TRIM, COMMITS, 1024, 65535, 0},
+};
+
+static uint8_t log_area[KAGUTIN_HEADER_SIZE + KAGUTIN_GROUP_SIZE * MOST_GROUPS], area[KAGUTIN_BLOCK_SIZE * MOST_HOMES];
+static uint8_t state[KAGUTIN_STATE_SIZE], newest[KAGUTIN_POSITION_SIZE * MOST_HOMES], block[KAGUTIN_BLOCK_SIZE];
+static uint8_t batch[KAGUTIN_GW_SIZE * MOST_GROUPS + KAGUTIN_HW_SIZE * MOST_HOMES + 1024];
+static size_t groups, homes;
+
+#define AREAS log_area, KAGUTIN_HEADER_SIZE + KAGUTIN_GROUP_SIZE *groups, area, KAGUTIN_BLOCK_SIZE *homes
+#define STATE state, sizeof state
+#define NEWEST newest, KAGUTIN_POSITION_SIZE *homes
+#define BATCH batch, sizeof batch
+
+static void done(struct kagutin_reply reply)
+{
+    if (reply.code == KAGUTIN_DONE)
+        return;
+    printf("wait_cost: answer %lu\n", (unsigned long)reply.code);
+    exit(1);
+}
+
+/* A home other than those before it, from 32 on where there are so many. */
+static uint64_t next_home(void)
+{
+    static uint64_t at;
+
+    at += 29;
+    return 32 + at % (homes - 33);
+}
+
+static bool store_one(uint64_t writer, uint64_t home)
+{
+    return kagutin_store(AREAS, STATE, block, sizeof block, BATCH, writer, home).code == KAGUTIN_DONE;
+}
+
+/* One transaction of four blocks of each of so many writers, in turn; false once the log is full. */
+static bool four_each(uint64_t writers)
+{
+    uint64_t writer;
+    int i;
+
+    for (writer = 0; writer < writers; writer++)
+        done(kagutin_begin(AREAS, STATE, writer));
+    for (i = 0; i < 4; i++)
+        for (writer = 0; writer < writers; writer++)
+            if (!store_one(writer, next_home()))
+                return false;
+    for (writer = 0; writer < writers; writer++)
+        if (kagutin_commit(AREAS, STATE, NEWEST, BATCH, writer).code != KAGUTIN_DONE)
+            return false;
+    return true;
+}
+
+static void fill_committed(uint64_t writers)
+{
+    uint64_t writer;
+
+    while (four_each(writers))
+        continue;
+    for (writer = 0; writer < writers; writer++)
+        kagutin_abort(AREAS, STATE, writer);
+}
+
+/* The owner's open transaction from the log's first position on, then the other writer's or its own to the log's end but one. */
+static void fill_open(enum fill fill)
+{
+    unsigned long i, places = PLACES * (unsigned long)groups - 2;
+    uint64_t writer = fill == OTHERS || fill == OTHERS_TWO ? OTHER : OWNER;
+    bool two = fill == OTHERS_TWO || fill == OWN_TWO;
+
+    done(kagutin_begin(AREAS, STATE, OWNER));
+    store_one(OWNER, 32);
+    store_one(OWNER, 33);
+    if (writer == OTHER)
+        done(kagutin_begin(AREAS, STATE, OTHER));
+    for (i = 0; i < places; i++)
+        if (!store_one(writer, two ? TWO_HOMES + i % 2 : next_home()))
+            break;
+}
+
+/* Fences what is logged. */
+static void fence(void)
+{
+    done(kagutin_flush(AREAS, STATE, BATCH));
+    done(kagutin_confirm(AREAS, STATE));
+}
+
+static void put_number(uint8_t *to, uint64_t value)
+{
+    int i;
+
+    for (i = 0; i < 8; i++)
+        to[i] = (uint8_t)(value >> 8 * i);
+}
+
+/* Every entry closes a transaction that began at the first position: it links to the one before and counts all up to it. */
+static void share_first(void)
+{
+    uint64_t offset, home;
+
+    for (offset = 0; offset < PLACES * groups; offset++) {
+        home = next_home();
+        put_number(log_area + KAGUTIN_HEADER_SIZE + KAGUTIN_GROUP_SIZE * (offset / PLACES) + 8 + 8 * (offset % PLACES),
+                   3 | (home & 0xfff) << 2 | offset << 14 | (uint64_t)(offset > 0) << 27 | (offset + 1) << 40 | home >> 12 << 53);
+    }
+}
+
+/* Fills the log and makes what comes before the call that counts. */
+static void prepare(const struct wait *wait)
+{
+    if (wait->call == READ || wait->call == COMMIT) {
+        fill_open(wait->fill);
+        return;
+    }
+    if (wait->fill == ONE)
+        four_each(1);
+    else
+        fill_committed(wait->fill == COMMITS ? 1 : KAGUTIN_WRITERS);
+    fence();
+    if (wait->fill == SHARED)
+        share_first();
+    if (wait->call == STEP || wait->call == ROUND)
+        done(kagutin_begin_round(AREAS, STATE));
+    if (wait->call == TRIM) {
+        done(kagutin_settle(AREAS, STATE, BATCH));
+        done(kagutin_confirm(AREAS, STATE));
+    }
+}
+
+static struct kagutin_reply step(void)
+{
+    return kagutin_step_round(AREAS, STATE, BATCH, SMALL_STEP);
+}
+
+/* All steps of a round. */
+static struct kagutin_reply all_steps(void)
+{
+    struct kagutin_reply reply;
+
+    do
+        reply = step();
+    while (reply.code == KAGUTIN_DONE && reply.size % KAGUTIN_HW_SIZE == 0);
+    return reply;
+}
+
+/* The call whose instructions count. */
+struct kagutin_reply counted(enum call call);
+struct kagutin_reply counted(enum call call)
+{
+    switch (call) {
+    case SETTLE: return kagutin_settle(AREAS, STATE, BATCH);
+    case STEP: return step();
+    case ROUND: return all_steps();
+    case READ: return kagutin_read(AREAS, STATE, NEWEST, block, sizeof block, OWNER, TWO_HOMES);
+    case COMMIT: return kagutin_commit(AREAS, STATE, NEWEST, BATCH, OWNER);
+    default: return kagutin_trim(AREAS, STATE, NEWEST, BATCH);
+    }
+}
+
+static int run(const struct wait *wait)
+{
+    groups = wait->groups;
+    homes = wait->homes;
+    done(kagutin_format(AREAS, BATCH));
+    done(kagutin_open(AREAS, STATE, NEWEST, BATCH));
+    prepare(wait);
+    done(counted(wait->call));
+    return 0;
+}
+
+int main(int count, char **words)
+{
+    static const char *const calls[] = {"settle", "step_round", "step_round", "read", "commit", "trim"};
+    size_t i;
+
+    for (i = 0; i < sizeof waits / sizeof waits[0]; i++) {
+        if (count < 2)
+            printf("%s %s %lu %lu\n", waits[i].name, calls[waits[i].call], PLACES * (unsigned long)waits[i].groups,
+                   waits[i].most);
+        else if (strcmp(words[1], waits[i].name) == 0)
+            return run(&waits[i]);
+    }
+    return count >= 2;
+}
