@@ -42,6 +42,7 @@ ARCHIVE = target/staticlib/libkagutin.a
 GAUGES_ARCHIVE = target/staticlib/libgauges.a
 INFLOW_ARCHIVE = target/staticlib/libinflow.a
 ARCHIVES = $(ARCHIVE) $(GAUGES_ARCHIVE) $(INFLOW_ARCHIVE)
+RUNNER_ARCHIVE = target/staticlib/libobject_runner.a
 
 .PHONY: all help run quick test test-library test-compared test-c compare play bench bench-docs reference library clean
 
@@ -68,7 +69,7 @@ define ARCHIVE_OF
 target/staticlib/lib$(1).a: crates.txt $$(shell find crates.txt $(addprefix crates/,$(shell scripts/library.sh --crates $(call crate_of,$(1)))) -name '*.rt' -o -name '*.antt')
 	@scripts/library.sh $(call crate_of,$(1)) $(1)
 endef
-$(foreach name,$(ARCHIVES:target/staticlib/lib%.a=%),$(eval $(call ARCHIVE_OF,$(name))))
+$(foreach name,$(ARCHIVES:target/staticlib/lib%.a=%) object_runner,$(eval $(call ARCHIVE_OF,$(name))))
 
 run: station
 	$(C_OUT)/station --seed $(SEED) --cuts $(CUTS)
@@ -135,7 +136,15 @@ test-library: rust/target/release/bench
 	failed=0; $(MAKE) --no-print-directory test-c > target/test/c.log 2>&1 || failed=1; \
 	wait $$compared || failed=1; cat target/test/compared.log target/test/c.log; exit $$failed
 
+# The proved runner beside the object's.
+.PHONY: runner-compare
+runner-compare: $(RUNNER_ARCHIVE)
+	@mkdir -p target/test
+	$(CC) $(C_FLAGS) tests/store/runner_check.c c/store/batch.c $(RUNNER_ARCHIVE) -o target/test/runner_check
+	target/test/runner_check
+
 test-compared:
+	$(MAKE) --no-print-directory runner-compare
 	$(MAKE) --no-print-directory dist-check
 	$(MAKE) --no-print-directory validate
 	$(MAKE) --no-print-directory validate-quick-check

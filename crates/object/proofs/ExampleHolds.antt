@@ -22,13 +22,16 @@ use Rattle.model_laws.proofs.bytes.ByteLaws.{length-zeros, same-eq}
 use Rattle.model_laws.proofs.bytes.LayoutLaws.{three}
 use Rattle.model_laws.proofs.state.QuestionLaws.{and-true}
 use Rattle.model.proofs.examples.Computing.{all-definitions}
+use Rattle.abstract_store.specs.Store.{newStore}
 use Rattle.theorems.proofs.steps.FormatRuns.{after-format}
 use Rattle.object.specs.Medium.{Grain, words, unitOf, chopLog, chopArea, chop, chopAll, writes, fences as fences-of, loses}
 use Rattle.object.specs.Alike.{hole, rewrites, Alike, Tearing, plain, torn, withMemory, tears, tornAfter, AllTearingsAllowed, AllTearingsHold}
+use Rattle.object.specs.TornClaims.{LiveTorn, AnswersThroughTorn}
 use Rattle.object.specs.Order.{motions, parted, body, head, headsOut, wipe, moves, moved, Left, Allowed as AllowedCut}
 use Rattle.object.specs.Runner.{Doing, calls, cuts, Carried, AllRight}
 use Rattle.object.specs.Example.{unformatted, openAgain, alone, asDoings, third, other, all, history, opens, givesAlone, answered, upTo, behind, carriedOut, runsTo, runsAsListed, Goes, twoCommits, tornMemory, asTearings, tearings, slotsAlike, numbersBelow, homesAlike, isAlike, tearsTo, wholeMemory, damaged, healing, opensWith}
 use Rattle.object.proofs.TornHolds.{demand-torn}
+use Rattle.object.proofs.TornClaims.{demand2-torn, answers-torn-hold}
 use Rattle.object.proofs.WordsHold.{words-enough}
 use Rattle.object.proofs.RunnerHolds.{demand-runner}
 
@@ -310,6 +313,12 @@ met-tearings = rw (after-format format) (met-torn 4 tearings (emptyStore 4 4) to
 
 pub torn-there : AllTearingsHold (afterFormat format) tearings
 torn-there = demand-torn 4 4 format tearings met-tearings
+
+pub live-there : LiveTorn (afterFormat format) tearings
+live-there = demand2-torn 4 4 format tearings met-tearings
+
+pub answers-there : AnswersThroughTorn (afterFormat format) (newStore 4 4) tearings
+answers-there = answers-torn-hold 4 4 format tearings met-tearings
 
 -- and of a cut inside the opening that ends the second
 pub enough-there : AllowedCut words 4 (tornAfter (afterFormat format) tearings) 5 (Left words (tornAfter (afterFormat format) tearings) 5 third)

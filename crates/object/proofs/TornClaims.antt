@@ -1,4 +1,4 @@
--- Demand 2, the answers and isolation over torn crashes: the invariants that the old claims rest on hold after a torn crash too.
+-- Demand 2 and the answers over torn crashes: the invariants that the old claims rest on hold after a torn crash too.
 use Prim.Native.Nat.{ℕ, _*_, _<_}
 use mathlib.Core.Path.{_≡_, refl, sym, ap, _∙_, subst, fun-ext}
 use mathlib.Core.Logic.{inl, inr}
@@ -9,9 +9,9 @@ use Rattle.model.specs.Layout.{headerStart, entryAt}
 use Rattle.model.specs.Commit.{transactions}
 use Rattle.model.specs.declared.Tag.{Tag}
 use Rattle.model.specs.Crash.{Memory, persist}
-use Rattle.model.specs.DemandTwo.{Live, contents, eachContents, LiveThroughout}
-use Rattle.model.specs.History.{calls, Event, crash, World, Formatting, afterFormat, emptyStore, step, afterCrash, Allowed, AllAllowed}
-use Rattle.abstract_store.specs.Store.{Store, newStore, follow, foundInMemory, AnswersThroughout}
+use Rattle.model.specs.DemandTwo.{Live, contents, eachContents}
+use Rattle.model.specs.History.{crash, World, Formatting, afterFormat, emptyStore, step, afterCrash}
+use Rattle.abstract_store.specs.Store.{Store, newStore, follow, foundInMemory}
 use Rattle.model_laws.proofs.trace.TraceLaws.{All}
 use Rattle.theorems.proofs.invariant.Invariant.{Sizes, Invariant}
 use Rattle.theorems.proofs.invariant.TouchLaws.{CommitFits, commits-fit}
@@ -24,9 +24,8 @@ use Rattle.theorems.proofs.newest.NewestHolds.{NewestNow, kept-ready, now-keeps
 use Rattle.theorems.proofs.store.StoreAgrees.{Agrees}
 use Rattle.theorems.proofs.store.StoreFollows.{follows, empty-agrees}
 use Rattle.theorems.proofs.store.AnswersHold.{answers-at}
-use Rattle.theorems.proofs.isolation.AlikeHistories.{FitThroughout, Runs, told-throughout}
 use Rattle.object.specs.Alike.{Alike, Tearing, plain, torn, withMemory, tears, tornAfter, TearingAllowed, AllTearingsAllowed}
-use Rattle.object.specs.TornClaims.{TearingYields, LiveTorn, Demand2Torn, followTorn, followedTorn, TearingAnswers, FoundBack, AnswersThroughTorn, AnswersTorn, IsolationTorn}
+use Rattle.object.specs.TornClaims.{TearingYields, LiveTorn, Demand2Torn, followTorn, followedTorn, TearingAnswers, FoundBack, AnswersThroughTorn, AnswersTorn}
 use Rattle.object.proofs.AlikeLaws.{start-same, SameBlock, entry-same, blocks-found}
 use Rattle.object.proofs.TornHolds.{keeps-torn}
 
@@ -80,7 +79,7 @@ module _ (G D : ℕ) (z : Sizes G D) where
         promises = λ h. absurd (false≢true h);
       }
 
-  homes-of : (w : World) → Invariant G D w → w .homes ≡ D
+  pub homes-of : (w : World) → Invariant G D w → w .homes ≡ D
   homes-of w (inl c) = c .homes
   homes-of w (inr r) = r .copies .homes
 
@@ -107,7 +106,7 @@ module _ (G D : ℕ) (z : Sizes G D) where
     pub now : NewestNow G D w
     pub agrees : Agrees G D w s
 
-  stands : (w : World) (s : Store) → Standing w s → (t : Tearing) → TearingAllowed G w t → Standing (tears w t) (followTorn s w t)
+  pub stands : (w : World) (s : Store) → Standing w s → (t : Tearing) → TearingAllowed G w t → Standing (tears w t) (followTorn s w t)
   stands w s k t a =
       record {
         invariant = keeps-torn G D z w (k .invariant) t a .0;
@@ -116,7 +115,7 @@ module _ (G D : ℕ) (z : Sizes G D) where
         agrees = agrees-torn w (k .invariant) s (k .agrees) t a;
       }
 
-  live-now : (w : World) (s : Store) → Standing w s → w .ready ≡ true → Live w
+  pub live-now : (w : World) (s : Store) → Standing w s → w .ready ≡ true → Live w
   live-now w s k = go (k .invariant)
     where
       go : Invariant G D w → w .ready ≡ true → Live w
@@ -130,11 +129,11 @@ module _ (G D : ℕ) (z : Sizes G D) where
   found-now : (w : World) (s : Store) → Standing w s → FoundBack w s
   found-now w s k = rw (k .agrees .groups, k .agrees .homes) (k .agrees .found)
 
-  answers-now : (w : World) (s : Store) → Standing w s → (t : Tearing) → TearingAllowed G w t → TearingAnswers w s t
+  pub answers-now : (w : World) (s : Store) → Standing w s → (t : Tearing) → TearingAllowed G w t → TearingAnswers w s t
   answers-now w s k (plain e) a = answers-at G D z w (k .invariant) (kept-ready G D z w (k .invariant) (k .now)) s (k .agrees) e a
   answers-now w s k (torn passed chosen left) a = tt
 
-  fit-now : (w : World) (s : Store) → Standing w s → w .ready ≡ true → All (CommitFits D) (w .book .commits)
+  pub fit-now : (w : World) (s : Store) → Standing w s → w .ready ≡ true → All (CommitFits D) (w .book .commits)
   fit-now w s k = go (k .invariant)
     where
       go : Invariant G D w → w .ready ≡ true → All (CommitFits D) (w .book .commits)
@@ -152,7 +151,7 @@ module _ (G D : ℕ) (z : Sizes G D) where
   answers-torn (t ∷ ts) w s k a =
       (found-now w s k, answers-now w s k t (a .0), answers-torn ts (tears w t) (followTorn s w t) (stands w s k t (a .0)) (a .1))
 
-  stands-after : (ts : List Tearing) (w : World) (s : Store) → Standing w s → AllTearingsAllowed G w ts → Standing (tornAfter w ts) (followedTorn s w ts)
+  pub stands-after : (ts : List Tearing) (w : World) (s : Store) → Standing w s → AllTearingsAllowed G w ts → Standing (tornAfter w ts) (followedTorn s w ts)
   unfolding tornAfter followedTorn
   stands-after [] w s k a = k
   stands-after (t ∷ ts) w s k a = stands-after ts (tears w t) (followTorn s w t) (stands w s k t (a .0)) (a .1)
@@ -166,35 +165,9 @@ module _ (G D : ℕ) (z : Sizes G D) where
         agrees = empty-agrees G D z;
       }
 
-  -- from there on without a torn crash
-  runs-from : (es : List Event) (w : World) (s : Store) → Standing w s → AllAllowed w es → Runs D w s es
-  runs-from es w s k a =
-      record {
-        allowed = a;
-        answers = answers es w s k a;
-        live = live es w s k a;
-        fits = fits es w s k a;
-        beside = record { world = homes-of w (k .invariant); homes = k .agrees .homes; book = sym (k .agrees .book) };
-      }
-    where
-      on : (w : World) (s : Store) (e : Event) → Standing w s → Allowed w e → Standing (step w e) (follow s w e)
-      on w s e k a = unfold tears followTorn in stands w s k (plain e) a
-
-      answers : (es : List Event) (w : World) (s : Store) → Standing w s → AllAllowed w es → AnswersThroughout w s es
-      answers [] w s k a = found-now w s k
-      answers (e ∷ es) w s k a = (found-now w s k, answers-now w s k (plain e) (a .0), answers es (step w e) (follow s w e) (on w s e k (a .0)) (a .1))
-
-      live : (es : List Event) (w : World) (s : Store) → Standing w s → AllAllowed w es → LiveThroughout w es
-      live [] w s k a = live-now w s k
-      live (e ∷ es) w s k a = (live-now w s k, yields-now w s k (plain e) (a .0), live es (step w e) (follow s w e) (on w s e k (a .0)) (a .1))
-
-      fits : (es : List Event) (w : World) (s : Store) → Standing w s → AllAllowed w es → FitThroughout D w es
-      fits [] w s k a = fit-now w s k
-      fits (e ∷ es) w s k a = (fit-now w s k, fits es (step w e) (follow s w e) (on w s e k (a .0)) (a .1))
-
 -- ---- from every format on
 
-stands-there : (G D : ℕ) (f : Formatting G D) → Standing G D (sizes f) (afterFormat f) (newStore G D)
+pub stands-there : (G D : ℕ) (f : Formatting G D) → Standing G D (sizes f) (afterFormat f) (newStore G D)
 stands-there G D f = rw (after-format f) (stands-first G D (sizes f))
 
 pub demand2-torn : Demand2Torn
@@ -202,14 +175,3 @@ demand2-torn G D f ts a = live-torn G D (sizes f) ts (afterFormat f) (newStore G
 
 pub answers-torn-hold : AnswersTorn
 answers-torn-hold G D f ts a = answers-torn G D (sizes f) ts (afterFormat f) (newStore G D) (stands-there G D f) a
-
-pub isolation-torn : IsolationTorn
-isolation-torn G D f g before other cs ds writer hidden a b p q f-ready g-ready k e d =
-    let w : World = tornAfter (afterFormat f) before in
-    let v : World = tornAfter (afterFormat g) other in
-    let s : Store = followedTorn (newStore G D) (afterFormat f) before in
-    let t : Store = followedTorn (newStore G D) (afterFormat g) other in
-    told-throughout hidden writer D cs ds w v s t
-    (runs-from G D (sizes f) (calls cs) w s (stands-after G D (sizes f) before (afterFormat f) (newStore G D) (stands-there G D f) a) p)
-    (runs-from G D (sizes g) (calls ds) v t (stands-after G D (sizes g) other (afterFormat g) (newStore G D) (stands-there G D g) b) q)
-    f-ready g-ready k e d
