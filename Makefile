@@ -13,10 +13,12 @@
 # make bench      instructions and times of each call against the reference implementation; other stores, if installed
 # make bench-docs tables of docs/PERFORMANCE.md and docs/ring-cost.svg from the last bench
 # make install    program, manual pages, headers, libraries and pkg-config files, under DESTDIR and PREFIX; make uninstall takes them away; make arduino a library for it
+# make debian-check the Debian packages built, judged by lintian and used; make chroot-check README's steps on a bare Debian 12 and 13, as root; both long
 # make kagutin    the program, target/c/kagutin, and links to it by the names of the older programs: inspect, wear, bands, gauges, inflow, station
 # make quickstart the example
 # make c-check    tests of the C side alone; make c-kills KILLS=N kills a process at work N times
 # make page       docs/page/index.html, a page that opens an image and lets anyone cut the power
+# make evidence   after make test: the evidence of a safety assessment in target/evidence; make trace makes docs/TRACE.md
 # make lint       layout and lint, as far as the tools are installed
 # make fuzz       fuzzers of all readers, FUZZ_SECONDS each, where clang is installed; c-check has a short run of them
 # make clean      removes all that was built and proved
@@ -55,6 +57,7 @@ include make/c.mk
 include page/page.mk
 include make/lint.mk
 include make/validate.mk
+include make/safety.mk
 
 # Archives are made from proved crates only; rt proves what has changed, and a changed definition or proof counts as well.
 library: $(ARCHIVE)
@@ -112,6 +115,7 @@ test-proved: test-reference
 	python3 tests/definitions/definitions.py 200 $(DEFINITIONS_SEED)
 	verdict=$$(mktemp) && trap 'rm -f "$$verdict"' EXIT && \
 	rt ci 2>&1 | tee "$$verdict" && \
+	mkdir -p target/test && tail -n 1 "$$verdict" > target/test/verdict.txt && \
 	$(MAKE) --no-print-directory test-library && \
 	tail -n 1 "$$verdict"
 
@@ -143,6 +147,7 @@ test-compared:
 
 test-c:
 	$(MAKE) --no-print-directory lint
+	$(MAKE) --no-print-directory trace-check
 	$(MAKE) --no-print-directory c-check
 	$(MAKE) --no-print-directory c-check LIB=$(ARCHIVE) GAUGES_LIB=$(GAUGES_ARCHIVE) INFLOW_LIB=$(INFLOW_ARCHIVE) C_OUT=target/c-archive
 

@@ -81,7 +81,7 @@ extern "C" {
 #define KAGUTIN_MAX_HOMES 65535
 #define KAGUTIN_WRITERS 8
 #define KAGUTIN_GROUP_ENTRIES 7
-#define KAGUTIN_MAX_START ((uint64_t)1 << 47)
+#define KAGUTIN_MAX_START (UINT64_C(1) << 47)
 
 /* Records of a batch: two bytes of mark, then what the record carries. */
 #define KAGUTIN_GW_SIZE 516 /* "GW", ring slot (2), group (512) */
@@ -147,47 +147,46 @@ struct kagutin_places {
 /* Length of the log area of G groups, and of the data area of D homes. */
 static inline size_t kagutin_log_size(size_t groups)
 {
-    return (size_t)KAGUTIN_HEADER_SIZE + (size_t)KAGUTIN_GROUP_SIZE * groups;
+    return KAGUTIN_HEADER_SIZE + KAGUTIN_GROUP_SIZE * groups;
 }
 
 static inline size_t kagutin_area_size(size_t homes)
 {
-    return (size_t)KAGUTIN_BLOCK_SIZE * homes;
+    return KAGUTIN_BLOCK_SIZE * homes;
 }
 
 /* Length of the newest positions of D homes. */
 static inline size_t kagutin_newest_size(size_t homes)
 {
-    return (size_t)KAGUTIN_POSITION_SIZE * homes;
+    return KAGUTIN_POSITION_SIZE * homes;
 }
 
 /* Exactly what format writes; no call writes more. */
 static inline size_t kagutin_format_batch(size_t groups, size_t homes)
 {
-    return (size_t)KAGUTIN_GW_SIZE * groups + (size_t)KAGUTIN_HW_SIZE * homes + 2 * KAGUTIN_KW_SIZE + 3 * KAGUTIN_FN_SIZE;
+    return KAGUTIN_GW_SIZE * groups + KAGUTIN_HW_SIZE * homes + 2 * KAGUTIN_KW_SIZE + 3 * KAGUTIN_FN_SIZE;
 }
 
 /* The most that settle can write: one HW for each home with an entry, FN. */
 static inline size_t kagutin_settle_batch(size_t groups, size_t homes)
 {
-    size_t entries = (size_t)KAGUTIN_GROUP_ENTRIES * groups;
+    size_t entries = KAGUTIN_GROUP_ENTRIES * groups;
 
-    return (size_t)KAGUTIN_HW_SIZE * (homes < entries ? homes : entries) + KAGUTIN_FN_SIZE;
+    return KAGUTIN_HW_SIZE * (homes < entries ? homes : entries) + KAGUTIN_FN_SIZE;
 }
 
 /* The most that a step by so many homes can write: one HW for each, FN if it is the last. */
 static inline size_t kagutin_step_batch(size_t groups, size_t homes, uint64_t step)
 {
-    size_t all = kagutin_settle_batch(groups, homes);
+    size_t all = kagutin_settle_batch(groups, homes), some = step & SIZE_MAX;
 
-    return step < all / KAGUTIN_HW_SIZE ? (size_t)KAGUTIN_HW_SIZE * (size_t)step + KAGUTIN_FN_SIZE : all;
+    return step < all / KAGUTIN_HW_SIZE ? KAGUTIN_HW_SIZE * some + KAGUTIN_FN_SIZE : all;
 }
 
 /* The most that open can write: as settle, then the header, FN, every group and FN. */
 static inline size_t kagutin_open_batch(size_t groups, size_t homes)
 {
-    return kagutin_settle_batch(groups, homes) + KAGUTIN_KW_SIZE + KAGUTIN_FN_SIZE + (size_t)KAGUTIN_GW_SIZE * groups
-        + KAGUTIN_FN_SIZE;
+    return kagutin_settle_batch(groups, homes) + KAGUTIN_KW_SIZE + KAGUTIN_FN_SIZE + KAGUTIN_GW_SIZE * groups + KAGUTIN_FN_SIZE;
 }
 
 /* An answer in words. */

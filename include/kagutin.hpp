@@ -13,17 +13,16 @@
 #include <cstddef>
 #include <cstdint>
 
-/* The C headers' inline functions have casts as C writes them. */
-#if defined(__GNUC__)
-#pragma GCC diagnostic push
-#pragma GCC diagnostic ignored "-Wold-style-cast"
-#if !defined(__clang__)
-#pragma GCC diagnostic ignored "-Wuseless-cast"
+/* The one header, where it stands alone. */
+#if defined(__has_include)
+#if __has_include("kagutin_all.h") && !__has_include("kagutin_store.h")
+#define KGT_ALL_ALONE
 #endif
 #endif
+#if defined(KGT_ALL_ALONE)
+#include "kagutin_all.h"
+#else
 #include "kagutin_store.h"
-#if defined(__GNUC__)
-#pragma GCC diagnostic pop
 #endif
 
 #if __cplusplus >= 201703L

@@ -49,7 +49,7 @@ struct kagutin_comparison {
 /* The longest report that two lists of so many readings can make, in bytes. */
 static inline size_t kagutin_report_size(size_t first_readings, size_t second_readings)
 {
-    return (size_t)KAGUTIN_LINE_SIZE * (first_readings + second_readings);
+    return KAGUTIN_LINE_SIZE * (first_readings + second_readings);
 }
 
 /*

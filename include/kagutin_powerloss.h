@@ -127,9 +127,8 @@ struct kgt_powerloss {
     void (*say)(void *context, const char *text); /* gets the report; null: none */
     void *say_context;
     bool bytes_in_order; /* the medium takes bytes one by one, lowest first, and the driver keeps the header's first word whole */
-    bool
-        format_once; /* the driver starts on nothing but a formatted store, as that for files: power is never cut inside a format */
-    const char *script; /* a history of yours to begin with, or null; docs/DRIVERS.md has its letters */
+    bool format_once;    /* the driver starts on nothing but a formatted store, as that for files: no cut inside a format */
+    const char *script;  /* a history of yours to begin with, or null; docs/DRIVERS.md has its letters */
     uint64_t seed;
     unsigned histories; /* to be drawn from the seed, after the scripted ones */
     unsigned every;     /* cuts after every so many landings inside a call; 1: after each */
@@ -152,8 +151,7 @@ struct kgt_powerloss {
     uint64_t random;
     unsigned since, previous; /* first call after the last load, and after the one before it */
     bool known;               /* a load has been made */
-    bool step_open[KAGUTIN_WRITERS];
-    unsigned prelude; /* on a board: the first call behind the format */
+    unsigned prelude;         /* on a board: the first call behind the format */
 };
 
 /* Lent memory: a store of this shape, four images of it and the bytes of a history, room for so many groups. */

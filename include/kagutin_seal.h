@@ -57,13 +57,13 @@ static inline void kagutin_seal(uint8_t *block)
     block[59] = 0x53;
     crc = kagutin_crc32(block, 60);
     for (i = 0; i < 4; i++)
-        block[60 + i] = (uint8_t)(crc >> 8 * i);
+        block[60 + i] = crc >> 8 * i & 0xFF;
 }
 
 /* What a block of 64 bytes, as it was read, says of itself. Where a home is known to be sealed, all but whole and empty is damage. */
 static inline enum kagutin_seal_state kagutin_look_at_seal(const uint8_t *block)
 {
-    uint32_t crc = 0;
+    uint32_t crc = 0, byte;
     unsigned i;
 
     for (i = 0; i < 64 && block[i] == 0; i++)
@@ -72,8 +72,10 @@ static inline enum kagutin_seal_state kagutin_look_at_seal(const uint8_t *block)
         return KAGUTIN_SEAL_EMPTY;
     if (block[58] != 0x4B || block[59] != 0x53)
         return KAGUTIN_SEAL_NONE;
-    for (i = 0; i < 4; i++)
-        crc |= (uint32_t)block[60 + i] << 8 * i;
+    for (i = 0; i < 4; i++) {
+        byte = block[60 + i];
+        crc |= byte << 8 * i;
+    }
     return crc == kagutin_crc32(block, 60) ? KAGUTIN_SEAL_WHOLE : KAGUTIN_SEAL_BROKEN;
 }
 

@@ -92,23 +92,27 @@ struct kgt_driver {
 
 /* ---- sizes ---- */
 
-#define KGT_LOG_SIZE(groups) ((size_t)KAGUTIN_HEADER_SIZE + (size_t)KAGUTIN_GROUP_SIZE * (groups))
-#define KGT_HOMES_SIZE(homes) ((size_t)KAGUTIN_BLOCK_SIZE * (homes))
-#define KGT_NEWEST_SIZE(homes) ((size_t)KAGUTIN_POSITION_SIZE * (homes))
+/* A number as a size_t without a cast, which C++ would be warned of. */
+#define KGT_BYTES(number) sizeof(char[number])
+
+#define KGT_LOG_SIZE(groups) (KGT_BYTES(KAGUTIN_HEADER_SIZE) + KGT_BYTES(KAGUTIN_GROUP_SIZE) * (groups))
+#define KGT_HOMES_SIZE(homes) (KGT_BYTES(KAGUTIN_BLOCK_SIZE) * (homes))
+#define KGT_NEWEST_SIZE(homes) (KGT_BYTES(KAGUTIN_POSITION_SIZE) * (homes))
 
 /* The longest batch of any call but format: open's. */
 #define KGT_TOUCHED(groups, homes)                                                                                               \
-    ((size_t)(homes) < (size_t)KAGUTIN_GROUP_ENTRIES * (groups) ? (size_t)(homes) : (size_t)KAGUTIN_GROUP_ENTRIES * (groups))
+    (KGT_BYTES(1) * (homes) < KGT_BYTES(KAGUTIN_GROUP_ENTRIES) * (groups) ? KGT_BYTES(1) * (homes)                               \
+                                                                          : KGT_BYTES(KAGUTIN_GROUP_ENTRIES) * (groups))
 #define KGT_OPEN_BATCH(groups, homes)                                                                                            \
     (KAGUTIN_HW_SIZE * KGT_TOUCHED(groups, homes) + KAGUTIN_FN_SIZE + KAGUTIN_KW_SIZE + KAGUTIN_FN_SIZE                          \
-     + (size_t)KAGUTIN_GW_SIZE * (groups) + KAGUTIN_FN_SIZE)
+     + KGT_BYTES(KAGUTIN_GW_SIZE) * (groups) + KAGUTIN_FN_SIZE)
 #define KGT_BATCH_SIZE(groups, homes) KGT_OPEN_BATCH(groups, homes)
 
 /* Bytes of memory that a store of this shape needs, and more for a format. */
 #define KGT_MEMORY_SIZE(groups, homes)                                                                                           \
     (KGT_LOG_SIZE(groups) + KGT_HOMES_SIZE(homes) + KAGUTIN_STATE_SIZE + KGT_NEWEST_SIZE(homes) + KGT_BATCH_SIZE(groups, homes))
 #define KGT_FORMAT_SIZE(groups, homes)                                                                                           \
-    ((size_t)KAGUTIN_GW_SIZE * (groups) + (size_t)KAGUTIN_HW_SIZE * (homes) + 2 * KAGUTIN_KW_SIZE + 3 * KAGUTIN_FN_SIZE)
+    (KGT_BYTES(KAGUTIN_GW_SIZE) * (groups) + KGT_BYTES(KAGUTIN_HW_SIZE) * (homes) + 2 * KAGUTIN_KW_SIZE + 3 * KAGUTIN_FN_SIZE)
 
 /* ---- answers beyond those of kagutin.h ---- */
 

@@ -37,6 +37,7 @@ C_DRIVER_CHECK = tests/programs/driver_check c/station/driver c/station/driver_f
 C_QUICKSTART = c/examples/quickstart $(C_STORE)
 C_STORE_CHECK = tests/store/store_check tests/common/play $(C_STORE)
 C_RESERVE_CHECK = tests/store/reserve_check $(C_STORE)
+C_MANY_CHECK = tests/store/many_check
 C_ROUND_CHECK = tests/store/round_check $(C_STORE)
 C_RIGHTS_CHECK = tests/store/rights_check $(C_STORE)
 C_FILE_CHECK = tests/drivers/file_check tests/common/play $(C_STORE)
@@ -52,7 +53,7 @@ C_GAUGES_COST = tests/costs/gauges_cost
 C_RIGHTS_COST = tests/costs/rights_cost
 C_QUESTION_COST = tests/costs/question_cost
 C_WAIT_COST = tests/costs/wait_cost
-C_PROGRAMS = quickstart driver_check store_check reserve_check round_check rights_check file_check create_check kill_check fram_check dump_check format_check reopen_check disk_check seal_check gauges_cost rights_cost question_cost wait_cost
+C_PROGRAMS = quickstart driver_check store_check reserve_check many_check round_check rights_check file_check create_check kill_check fram_check dump_check format_check reopen_check disk_check seal_check gauges_cost rights_cost question_cost wait_cost
 
 .PHONY: quickstart c-sanitize c-check c-kills c-dist install uninstall c-clean
 
@@ -61,7 +62,7 @@ c-sanitize: $(C_PROGRAMS:%=$(C_OUT)/sanitize/%)
 
 $(C_OBJECTS)/%.o: %.c $(C_HEADERS)
 	@mkdir -p $(@D)
-	$(CC) $(C_FLAGS) $(CFLAGS) -c $< -o $@
+	$(CC) $(C_FLAGS) $(CPPFLAGS) $(CFLAGS) -c $< -o $@
 
 $(C_OUT)/sanitize/obj/%.o: %.c $(C_HEADERS)
 	@mkdir -p $(@D)
@@ -81,7 +82,7 @@ $(C_LINKED):
 # One program in both builds: its name, its objects, the libraries it needs.
 define C_PROGRAM
 $(C_OUT)/$(1): $(2:%=$(C_OBJECTS)/%.o) $(3) $(if $(3),$(C_LINKED))
-	$$(CC) $$(CFLAGS) $$(filter-out $(C_LINKED),$$^) $(if $(3),$$(C_LIBS)) -o $$@
+	$$(CC) $$(CFLAGS) $$(LDFLAGS) $$(filter-out $(C_LINKED),$$^) $(if $(3),$$(C_LIBS)) -o $$@
 
 $(C_OUT)/sanitize/$(1): $(2:%=$(C_OUT)/sanitize/obj/%.o) $(3:$(C_OUT)/%=$(C_OUT)/sanitize/%) $(if $(3),$(C_LINKED))
 	$$(CC) $$(C_SANITIZE) $$(filter-out $(C_LINKED),$$^) $(if $(3),$$(C_LIBS)) -o $$@
@@ -91,6 +92,7 @@ $(eval $(call C_PROGRAM,quickstart,$(C_QUICKSTART),$(LIB)))
 $(eval $(call C_PROGRAM,driver_check,$(C_DRIVER_CHECK),$(LIB)))
 $(eval $(call C_PROGRAM,store_check,$(C_STORE_CHECK),$(LIB)))
 $(eval $(call C_PROGRAM,reserve_check,$(C_RESERVE_CHECK),$(LIB)))
+$(eval $(call C_PROGRAM,many_check,$(C_MANY_CHECK),$(LIB)))
 $(eval $(call C_PROGRAM,round_check,$(C_ROUND_CHECK),$(LIB)))
 $(eval $(call C_PROGRAM,rights_check,$(C_RIGHTS_CHECK),$(LIB)))
 $(eval $(call C_PROGRAM,file_check,$(C_FILE_CHECK),$(LIB)))
@@ -114,7 +116,7 @@ c-check: $(C_PROGRAMS:%=$(C_OUT)/%) c-sanitize
 
 # The quick tests, in seconds.
 C_QUICK = station inspect quickstart gauges inflow bands wear driver_check store_check reserve_check round_check rights_check file_check fram_check \
-    format_check reopen_check units_check replies_check lock_check misuse_check
+    format_check reopen_check powerloss_check units_check replies_check lock_check misuse_check
 .PHONY: c-quick
 c-quick: $(C_QUICK:%=$(C_OUT)/%)
 	CC="$(CC)" LIB="$(LIB)" C_LIBS="$(C_LIBS)" sh tests/quick.sh $(C_OUT)
@@ -161,7 +163,8 @@ INCLUDEDIR ?= $(PREFIX_HERE)/include
 TO_LIB = $(DESTDIR)$(LIBDIR)
 TO_INCLUDE = $(DESTDIR)$(INCLUDEDIR)
 
-C_INSTALLED = $(C_PUBLIC:%=include/%.h) $(C_WRAPPER) $(C_STANDALONE:%=include/%.h)
+# Both ways to include them: by subject, and kagutin_all.h, as the README has it.
+C_INSTALLED = $(C_PUBLIC:%=include/%.h) $(C_WRAPPER) $(C_STANDALONE:%=include/%.h) dist/kagutin_all.h
 C_INSTALLED_LIBS = libkagutin.a libkagutin_store.a $(C_STANDALONE:%=lib%.a)
 PC_FILES = kagutin.pc kagutin-units.pc
 

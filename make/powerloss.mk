@@ -6,18 +6,20 @@
 
 C_POWERLOSS = $(addprefix c/powerloss/,powerloss board history judge report shrink trial sim)
 C_POWERLOSS_CHECK = tests/drivers/powerloss_check c/powerloss/broken $(C_POWERLOSS) $(C_STORE)
+C_POWERLOSS_FAULTS = tests/drivers/powerloss_faults c/powerloss/broken $(C_POWERLOSS) $(C_STORE)
 C_RELAY_CHECK = tests/drivers/relay_check c/powerloss/broken $(C_POWERLOSS) $(C_STORE)
 POWERLOSS_LIB = $(C_OUT)/libkagutin_powerloss.a
 POWERLOSS_HEADERS = include/kagutin_powerloss.h include/kagutin_sim.h
 
 $(eval $(call C_PROGRAM,powerloss_check,$(C_POWERLOSS_CHECK),$(LIB)))
+$(eval $(call C_PROGRAM,powerloss_faults,$(C_POWERLOSS_FAULTS),$(LIB)))
 $(eval $(call C_PROGRAM,relay_check,$(C_RELAY_CHECK),$(LIB)))
 
-POWERLOSS_PROGRAMS = $(foreach program,powerloss_check relay_check,$(C_OUT)/$(program) $(C_OUT)/sanitize/$(program))
+POWERLOSS_PROGRAMS = $(foreach program,powerloss_check powerloss_faults relay_check,$(C_OUT)/$(program) $(C_OUT)/sanitize/$(program))
 
 .PHONY: powerloss-check install-powerloss uninstall-powerloss
 powerloss-check: $(POWERLOSS_PROGRAMS)
-	CC="$(CC)" sh tests/programs/powerloss-check.sh $(C_OUT)
+	CC="$(CC)" LIB="$(LIB)" C_LIBS="$(C_LIBS)" sh tests/programs/powerloss-check.sh $(C_OUT)
 
 c-check: powerloss-check
 

@@ -1,8 +1,8 @@
 #!/bin/sh
-# Installs what the page needs: clang and lld to make it, Chromium and Python to test it. Nothing calls it by itself.
+# Installs what the page needs: clang and lld to make it, Chromium and Python to test it. Nothing calls it by itself. packages.sh --list names them.
 set -eu
 
-packages="clang lld make gcc python3 chromium"
+packages="clang lld make gcc libc6-dev python3 chromium"
 
 as_root()
 {
@@ -13,6 +13,7 @@ as_root()
     fi
 }
 
+[ "${1:-}" != --list ] || { echo "$packages"; exit; }
 command -v apt-get >/dev/null || { echo "packages.sh: no apt-get here; install by hand: $packages" >&2; exit 1; }
 as_root apt-get update
 # shellcheck disable=SC2086 # one word for each package

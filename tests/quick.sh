@@ -17,6 +17,7 @@ gives 0 "files: written and mapped" "$out/file_check" "$tmp"
 gives 0 "FRAM: power gone after every 13 bytes" "$out/fram_check" 13
 gives 0 "format: over a damaged header" "$out/format_check" 9
 gives 0 "reopening: a driver that fails at each call in turn" "$out/reopen_check" 2000
+gives 0 "power-loss kit: its six broken drivers" "$out/powerloss_check" 61
 gives 0 "units: events and cuts" "$out/units_check" 4
 gives 0 "replies: no field misleads" "$out/replies_check"
 gives 0 "a lock refused at each taking" "$out/lock_check"

@@ -13,13 +13,13 @@ from terms import (FALSE, Head, Mem, Refused, State, called, filled, leaves_of, 
 class CRun(CValues):
     """`parameters`: the program's local for each parameter; `locals_of`: for each variable, a hint; `callees`: for each function that
     may be called, the program's, and its literal arguments by place; `shapes`: of the program's locals that lie in memory; `dead`: (loop,
-    variable) that is not taken to be equal at the head."""
+    variable) that is not taken to be equal at the head; `written`: loops at whose heads memory is anything in any case."""
 
-    def __init__(self, c, name, parameters, locals_of, callees, shapes=None, dead=frozenset()):
+    def __init__(self, c, name, parameters, locals_of, callees, shapes=None, dead=frozenset(), written=frozenset()):
         super().__init__(c)
-        self.locals_of, self.callees, self.shapes, self.dead = locals_of, callees, shapes or {}, dead
+        self.locals_of, self.callees, self.shapes, self.dead, self.written = locals_of, callees, shapes or {}, dead, written
         f = c.functions[name]
-        self.result = c.result(f)
+        self.result, self.outermost = c.result(f), f.body.block_items or []
         given = c.parameters(f)
         if len(given) != len(parameters):
             raise Refused('another number of parameters')
@@ -80,8 +80,10 @@ class CRun(CValues):
         raise Refused(f'C statement {type(s).__name__}')
 
     def declare(self, s, state):
-        if s.name in self.types or s.storage or not isinstance(s.type, (c_ast.TypeDecl, c_ast.PtrDecl)):
+        if s.name in self.types or s.storage or s.align or not isinstance(s.type, (c_ast.TypeDecl, c_ast.PtrDecl)):
             raise Refused(f'declaration of {s.name}')
+        if s.name in self.memory and s not in self.outermost:
+            raise Refused(f'{s.name} lies in memory, and ends with the block that it is declared in')
         self.types[s.name] = self.c.type(s.type)
         local = self.locals_of.get(s.name)
         if s.name in self.memory and not (local in self.shapes and same_shape(self.c.shape(self.types[s.name]), self.shapes[local])):
@@ -98,7 +100,9 @@ class CRun(CValues):
             s = s.expr
         if isinstance(s, c_ast.FuncCall):
             self.call(state, s)
-        elif not isinstance(s, c_ast.ID):
+        elif isinstance(s, c_ast.ID):
+            self.expression(state, s)
+        else:
             raise Refused('an expression as a statement')
         return state
 
@@ -140,7 +144,7 @@ class CRun(CValues):
 
     def assign_array(self, state, pointer, t, e):
         array, parts = self.c.members[t.name][0][1], e.init.exprs[0].exprs
-        if self.c.type(e.type) != t or len(parts) != array.count:
+        if self.c.type(e.type) != t or len(parts) != array.count or len(e.init.exprs) != 1:
             raise Refused('an array of another type or length')
         for value in [self.stored(state, self.expression(state, part), array.item) for part in parts]:
             pointer = self.write_leaf(state, pointer, value[0])
@@ -154,6 +158,7 @@ class CRun(CValues):
             raise Refused('a for with parts')
         n = len(self.heads)
         changed, memory = self.changes(s)
+        memory = memory or n in self.written
         head, turn = Head(state, set(), memory), state.copy()
         for variable in sorted(changed):
             if variable in self.locals_of and (n, variable) not in self.dead and any(leaves_of(state.locals.get(variable))):

@@ -1,18 +1,17 @@
-"""Reads a C file: preprocessed by gcc -E for a target, parsed by pycparser, its types as the target has them.
+"""Reads a C file: preprocessed for a target (preprocess.py), parsed by pycparser, its types as the target has them.
 
 A target gives the widths of int and size_t, the byte order, and the macros that a compiler for it defines. The standard headers are
 those in `c_headers`: the types and names that C99 demands, and no more.
 """
+import functools
 import os
 import re
-import subprocess
 from dataclasses import dataclass, field
 
 from pycparser import c_ast, c_generator, c_parser
+from pycparser.plyparser import ParseError
 
 from terms import BOOL, BV, Refused
-
-HERE = os.path.dirname(os.path.abspath(__file__))
 
 
 @dataclass(frozen=True)
@@ -61,56 +60,65 @@ class CArray:
 C_BOOL, C_VOID, U8, U32, U64 = CBool(), CVoid(), CInt(8, False), CInt(32, False), CInt(64, False)
 
 
-def preprocessed(path, include, target, defines=()):
-    """The text that a compiler for the target sees, with markers of lines."""
-    order = 'LITTLE' if target.order == 'little' else 'BIG'
-    words = ['-D__ORDER_LITTLE_ENDIAN__=1234', '-D__ORDER_BIG_ENDIAN__=4321', f'-D__BYTE_ORDER__=__ORDER_{order}_ENDIAN__',
-             f'-DVALIDATE_INT={target.int_bits}', f'-DVALIDATE_SIZE={target.size_bits}', *(f'-D{word}' for word in target.defines)]
-    command = ['gcc', '-std=c99', '-E', '-nostdinc', '-undef', '-I' + os.path.join(HERE, 'c_headers'), '-I' + include, *words, *defines, path]
-    run = subprocess.run(command, capture_output=True, text=True)
-    if run.returncode:
-        raise Refused(f'gcc -E: {run.stderr[:300]}')
-    return run.stdout
+written = c_generator.CGenerator().visit
+
+
+@functools.lru_cache(maxsize=8)
+def parsed(text):
+    """What a text declares and defines. Nothing changes it: the targets that have the same text share it."""
+    try:
+        return c_parser.CParser().parse(text).ext
+    except ParseError as error:
+        raise Refused(f'pycparser: {error}') from error
 
 
 class CFile:
-    """Structs and functions of a file. `own`: defined in the file itself; the rest comes from headers."""
+    """Structs and functions of a file. `own`: defined in the file itself; the rest is what its headers have, read by themselves."""
 
-    def __init__(self, text, path, target):
+    def __init__(self, text, path, target, headers=''):
         self.target, self.path = target, path
         self.structs, self.functions, self.own, self.declared = {}, {}, [], {}
         self.declared_in = {}                                   # declared function -> the header
-        for item in c_parser.CParser().parse(text, path).ext:
-            self.add(item)
+        others = {written(item): item for item in parsed(headers)}
+        names = {item.decl.name for item in others.values() if isinstance(item, c_ast.FuncDef)}
+        for item in parsed(text):
+            own = isinstance(item, c_ast.FuncDef) and item.decl.name not in names
+            self.add(item, not own and others.pop(written(item), None) is not None)
+        if others:
+            raise Refused(f'the file does not see what its headers have: {sorted(others)[0][:80]}')
         self.members = {name: [(m.name, self.type(m.type)) for m in members] for name, members in self.structs.items()}
 
-    def add(self, item):
+    def add(self, item, of_header):
         if isinstance(item, c_ast.FuncDef):
             if item.decl.name in self.functions:
                 raise Refused(f'{item.decl.name}: defined twice')
+            if item.param_decls or set(item.decl.funcspec) - {'inline'} or set(item.decl.storage) - {'static'}:
+                raise Refused(f'{item.decl.name}: defined in another way')
             self.functions[item.decl.name] = item
-            if item.decl.coord.file == self.path:
+            if not of_header:
                 self.own.append(item.decl.name)
         elif isinstance(item, c_ast.Decl) and isinstance(item.type, c_ast.Struct) and item.type.decls:
-            if item.type.name in self.structs:
-                raise Refused(f'struct {item.type.name}: declared twice')
+            if item.type.name in self.structs or any(member.bitsize or member.align for member in item.type.decls):
+                raise Refused(f'struct {item.type.name}: declared twice, or with bit-fields')
             self.structs[item.type.name] = item.type.decls
+        elif not of_header:
+            raise Refused(f'{type(item).__name__} outside a function')
         elif isinstance(item, c_ast.Decl) and isinstance(item.type, c_ast.FuncDecl):
             self.declared[item.name] = item
             self.declared_in[item.name] = os.path.basename(item.coord.file)
-        elif not (isinstance(item, (c_ast.Typedef, c_ast.Pragma)) or isinstance(item, c_ast.Decl) and isinstance(item.type, c_ast.Enum)):
-            raise Refused(f'{type(item).__name__} outside a function')
 
     # ---- types
 
     def type(self, node):
-        if isinstance(node, (c_ast.TypeDecl, c_ast.Typename)):
+        if set(getattr(node, 'quals', None) or []) - {'const'}:
+            raise Refused(f'C type with {node.quals}')
+        if isinstance(node, (c_ast.TypeDecl, c_ast.Typename)) and not getattr(node, 'align', None):
             return self.type(node.type)
         if isinstance(node, c_ast.PtrDecl):
             return CPointer(self.type(node.type), 'const' in getattr(node.type, 'quals', []))
-        if isinstance(node, c_ast.ArrayDecl) and isinstance(node.dim, c_ast.Constant):
-            return CArray(self.type(node.type), int(node.dim.value.rstrip('uUlL')))
-        if isinstance(node, c_ast.Struct):
+        if isinstance(node, c_ast.ArrayDecl) and isinstance(node.dim, c_ast.Constant) and re.fullmatch('[1-9][0-9]*', node.dim.value):
+            return CArray(self.type(node.type), int(node.dim.value))
+        if isinstance(node, c_ast.Struct) and not node.decls:
             return CStruct(node.name)
         if isinstance(node, c_ast.IdentifierType):
             return self.named_type(' '.join(node.names))
@@ -131,7 +139,7 @@ class CFile:
         if not isinstance(t, CStruct):
             return False
         members = [u for _, u in self.members.get(t.name, [])]
-        return len(members) == 2 and isinstance(members[0], CPointer) and t.name.startswith('slice_')
+        return len(members) == 2 and isinstance(members[0], CPointer) and getattr(members[1], 'is_size', False) and t.name.startswith('slice_')
 
     def is_array(self, t):
         """A struct around an array."""
@@ -171,8 +179,8 @@ class CFile:
         return self.type(declared.type.type)
 
     def text(self, name):
-        """A function as text, without hints to the compiler: two functions of one text mean the same on one target."""
-        return re.sub(r'^\s*#pragma.*\n', '', c_generator.CGenerator().visit(self.functions[name]), flags=re.M)
+        """A function as text: two functions of one text mean the same on one target."""
+        return written(self.functions[name])
 
     def is_static(self, name):
         return 'static' in self.functions[name].decl.storage

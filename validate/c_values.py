@@ -210,7 +210,9 @@ class CValues(Run):
         digits, suffix = re.fullmatch(r'(0[xX][0-9a-fA-F]+|0[0-7]*|[1-9][0-9]*)([uUlL]*)', text).groups()
         octal = digits.startswith('0') and len(digits) > 1 and digits[1] not in 'xX'
         value, suffix = int(digits, 8 if octal else 0), suffix.lower()
-        widths = (64,) if 'll' in suffix else (32, 64) if 'l' in suffix else (self.int.bits, 32, 64)
+        if suffix not in ('', 'u', 'll', 'ull', 'llu'):
+            raise Refused(f'constant {text}, whose width the target does not tell')
+        widths = (64,) if 'll' in suffix else (self.int.bits, 32, 64)
         for bits in widths:
             if 'u' not in suffix and value < 1 << bits - 1:
                 return Value(CInt(bits, True), number(value, bits))
@@ -221,8 +223,8 @@ class CValues(Run):
     def unary(self, state, e):
         if e.op == '&':
             at, t = self.place(state, e.expr)
-            if at[0] != 'memory':
-                raise Refused('the address of a variable that is not in memory')
+            if at[0] != 'memory' or not isinstance(e.expr, c_ast.ID):
+                raise Refused('the address of no variable in memory')
             return Value(CPointer(t, at[2]), at[1])
         if e.op == '!':
             return Value(self.int, truth=z3.Not(self.truth(state, e.expr)))
@@ -236,8 +238,8 @@ class CValues(Run):
         return Value(v.t, -v.term)
 
     def moved(self, state, p, i):
-        """A pointer moved up by a number of items."""
-        if not isinstance(p.t, CPointer) or not isinstance(p.t.to, CInt) or not isinstance(i.t, CInt):
+        """A pointer moved up by a number of items. One to a struct stays where it is, whatever it is cast to."""
+        if not isinstance(p.t, CPointer) or not isinstance(p.t.to, CInt) or not isinstance(p.item, CInt) or not isinstance(i.t, CInt):
             raise Refused('a sum of this pointer')
         by = i.wide if i.wide is not None else widened(i.term, 64, i.t.signed)
         pointer = simple(p.term + by * number(p.t.to.bits // 8))
@@ -300,9 +302,12 @@ class CValues(Run):
             raise Refused('a compound literal of this type')
         members = self.c.members[t.name]
         names, out = [name for name, _ in members], [None] * len(members)
+        named = {isinstance(part, c_ast.NamedInitializer) for part in e.init.exprs}
         for k, part in enumerate(e.init.exprs):
-            index = names.index(part.name[0].name) if isinstance(part, c_ast.NamedInitializer) else k
-            part = part.expr if isinstance(part, c_ast.NamedInitializer) else part
+            if len(named) > 1 or True in named and len(part.name) > 1:
+                raise Refused('members with names and without')
+            index = names.index(part.name[0].name) if True in named else k
+            part = part.expr if True in named else part
             if out[index] is not None:
                 raise Refused('a member given twice')
             out[index] = self.part(state, t, members[index][1], self.expression(state, part))

@@ -100,10 +100,19 @@ class Compare:
                 raise Refused('the result is in memory')
             self.same_value(ours.guard, 'result', ours.locals.get(0), theirs.locals.get('return'), shape)
         self.answered_for()
+        self.not_empty(ours)
+
+    def not_empty(self, end):
+        """The program's facts leave a run to its end, as far as a second tells: from facts that contradict each other all would follow."""
+        facts = [z3.Implies(conjunction(needed), test) for needed, test in self.p.facts]
+        if end is not None and self.solver.contradict([abstracted(a) for a in [*end.guard, *facts]], 1) == 'unsat':
+            raise Refused('the facts of the program contradict each other')
 
     def same_head(self, n, ours, theirs):
         if ours.memory != theirs.memory:
-            raise Refused(f'loop {n}: memory is written on one side only')
+            refused = Refused(f'loop {n}: memory is written on one side only')
+            refused.loop = n
+            raise refused
         for when in ('entry', 'back'):
             a, b = getattr(ours, when), getattr(theirs, when)
             if not self.same_arrival(f'loop {n}, {when}', a, b):

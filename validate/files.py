@@ -1,9 +1,10 @@
 """One C file of dist/ on one target: every function of it, none left over."""
-from c_text import CFile, preprocessed
+from c_text import CFile
 from functions import validate_copy
 from headers import Headers, declared_calls
 from helpers_check import check_helper
 from match import Matcher, c_name
+from preprocess import included, includes, preprocessed
 from sources import exported
 from wrappers import validate_export, validate_import
 
@@ -21,11 +22,17 @@ class Words:
         return self.all(word)[-1]
 
 
+def read_c(path, include, target):
+    """A C file as a compiler for the target sees it. Other headers are refused, and what compilers may read in two ways."""
+    included(path, include)
+    return CFile(preprocessed(path, include, target), path, target, preprocessed(includes(path), include, target))
+
+
 class File:
     def __init__(self, program, words, include, target):
         self.words, self.program, self.target = words, program, target
         source = words.one('--source')
-        self.c = CFile(preprocessed(words.path, include, target), words.path, target)
+        self.c = read_c(words.path, include, target)
         exports = {name: export for crate in words.all('--export') for name, export in exported(source, crate).items()}
         self.imports = {export.path: export for crate in words.all('--import') for export in exported(source, crate).values()}
         self.matcher = Matcher(program, self.c, source)

@@ -80,9 +80,9 @@ class HelperRun(CRun):
 
     def __init__(self, c, name):
         super(CRun, self).__init__(c)
-        self.locals_of, self.callees, self.dead = {}, {}, frozenset()
+        self.locals_of, self.callees, self.shapes, self.dead, self.written = {}, {}, {}, frozenset(), frozenset()
         f = c.functions[name]
-        self.result, values = c.result(f), {}
+        self.result, self.outermost, values = c.result(f), f.body.block_items or [], {}
         for i, (variable, t) in enumerate(c.parameters(f)):
             self.types[variable] = t
             values[variable] = symbols(c.shape(t), f'parameter {i}')

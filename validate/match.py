@@ -27,8 +27,8 @@ class Matcher:
         for name in program.functions:
             if self.by_name.setdefault(c_name(name), name) != name:
                 raise Refused(f'{name}: two functions of this name in C')
-        if any(name in HELPERS and name not in c.own for name in c.functions):
-            raise Refused('a helper that is defined in a header')
+        if any(name in HELPERS and not (name in c.own and c.is_static(name)) for name in c.functions):
+            raise Refused('a helper that is defined in a header, or is not static')
         for name in c.own:
             if name in HELPERS:
                 self.helpers.append(name)

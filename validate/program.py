@@ -74,6 +74,24 @@ def bodies(statement):
     return [body for _, body in statement[2]] if statement[0] == 'Switch' else []
 
 
+def mentioned(form):
+    """The locals in a form, however deep."""
+    if isinstance(form, dict):
+        return {form['local']} if 'local' in form else set().union(*map(mentioned, form.values()))
+    return set().union(*map(mentioned, form)) if isinstance(form, (list, tuple)) else set()
+
+
+def used_locals(body):
+    """The locals that a body does anything with but to assign them as a whole."""
+    used = set()
+    for statement in body:
+        kind, *parts = statement
+        whole = kind == 'Assign' and not parts[0]['steps']
+        used |= mentioned(parts[1:] if whole else parts) if not bodies(statement) else mentioned(parts[0] if kind in ('If', 'Switch') else [])
+        used = used.union(*map(used_locals, bodies(statement)))
+    return used
+
+
 def literal(operand):
     return operand['Int']['value'] if isinstance(operand, dict) and 'Int' in operand else None
 

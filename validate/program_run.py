@@ -7,7 +7,7 @@ lie in one block of memory.
 import z3
 
 from program import bodies, literal, only
-from terms import (BOOL, Head, Refused, Run, State, bytes_of, called, count_ones, either, filled, array_sort, known, leading_zeros,
+from terms import (BOOL, TRUE, Head, Refused, Run, State, bytes_of, called, count_ones, either, filled, array_sort, known, leading_zeros,
                    leaves_of, literal_of, merge, negation, number, read, read_array, resized, same_shape, shaped, sign_extended, signed_order,
                    signed_quotient, signed_remainder, simple, sorts_of, symbols, trailing_zeros, widened, Mem)
 
@@ -15,11 +15,13 @@ DEEPEST = 12        # functions put in place of their calls inside each other
 
 
 class ProgramRun(Run):
-    """`in_place(name, literals)`: whether a call is run in place, since C has no such call. `fixed`: parameters that are literals."""
+    """`in_place(name, literals, guard, leaves)`: whether a call is run in place, since C has no such call; the last two are None where the
+    run has not got there. `fixed`: parameters that are literals. `written`: loops at whose heads memory is anything in any case. `unused`:
+    locals in memory that are only assigned, which C leaves out: nothing reaches a block whose address nobody has."""
 
-    def __init__(self, program, name, in_place, fixed, size_bits):
+    def __init__(self, program, name, in_place, fixed, size_bits, written=frozenset(), unused=frozenset()):
         super().__init__()
-        self.program, self.in_place, self.size_bits = program, in_place, size_bits
+        self.program, self.in_place, self.size_bits, self.written, self.unused = program, in_place, size_bits, written, unused
         self.f, self.depth, self.counts = program.get(name), 0, {}
         self.result = self.f.types[0]
         values = {i: self.argument(i, fixed) for i in self.f.parameters()}
@@ -72,14 +74,15 @@ class ProgramRun(Run):
         return None
 
     def switch(self, state, operand, arms, around):
+        """Arm by arm as `if`s; an arm that the value decides is the last one, and one that it rules out is left out."""
         value, ends = self.operand(state, operand)[0], []
         for n, (keys, body) in enumerate(arms):
-            if n == len(arms) - 1:
-                if keys is not None:
-                    self.fact(state, z3.Or(*[value == key for key in keys]))
+            test = simple(z3.Or(*[value == key for key in keys])) if keys is not None else TRUE
+            if n == len(arms) - 1 or z3.is_true(test):
+                self.fact(state, test)
                 ends.append(self.body(body, state, around))
-            else:
-                test = simple(z3.Or(*[value == key for key in keys]))
+                break
+            if not z3.is_false(test):
                 ends.append(self.body(body, state.under(test), around))
                 state = state.under(negation(test))
         return merge(ends)
@@ -90,6 +93,7 @@ class ProgramRun(Run):
             raise Refused('a loop in a function that C has in place')
         n = len(self.heads)
         changed, memory = self.changes(self.f, body)
+        memory = memory or n in self.written
         head = Head(state, changed, memory)
         self.heads.append(head)
         turn = state.copy()
@@ -119,7 +123,7 @@ class ProgramRun(Run):
         return changed, memory
 
     def call_writes(self, name, args):
-        if not self.in_place(name, [literal(a) for a in args]):
+        if not self.in_place(name, [literal(a) for a in args], None, None):
             return True
         callee = self.program.get(name)
         return self.changes(callee, callee.body)[1]
@@ -208,6 +212,8 @@ class ProgramRun(Run):
 
     def assign(self, state, place, value):
         kind, content = only(value)
+        if not self.depth and place['local'] in self.unused:
+            return state
         t = self.locate(state, place)[1]
         shape = self.program.shape(t)
         if isinstance(shape, tuple) and kind in ('Repeat', 'Aggregate'):
@@ -331,10 +337,12 @@ class ProgramRun(Run):
 
     def call(self, state, name, args, place):
         f, values = self.program.get(name), [self.operand(state, a) for a in args]
-        if self.in_place(name, [literal_of(v[0]) if isinstance(v, tuple) else None for v in values]):
+        leaves = self.leaves(values)
+        if self.in_place(name, [literal_of(v[0]) if isinstance(v, tuple) else None for v in values], state.guard, leaves):
             result = self.run_in_place(state, f, values)
         else:
-            leaves = self.leaves(values)
+            if leaves is None:
+                raise Refused('the program has an argument that is not written in every case')
             self.calls.append((state.guard, name, leaves, state.memory))
             shape = self.program.shape(f.types[0])
             results, state.memory = called(name, leaves, state.memory, sorts_of(shape))
@@ -356,7 +364,8 @@ class ProgramRun(Run):
         return end.locals.get(0) if f.types[0] != 'Unit' else []
 
     def leaves(self, values):
+        """The leaves of a call's arguments, or None if one is not written in every case."""
         leaves = [leaf for value in values for leaf in leaves_of(value)]
         if any(leaf is None or not z3.is_true(simple(leaf[1])) for leaf in leaves):
-            raise Refused('the program has an argument that is not written in every case')
+            return None
         return [simple(leaf[0]) for leaf in leaves]

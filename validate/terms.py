@@ -14,9 +14,10 @@ FUNCTIONS = {}
 
 
 class Refused(Exception):
-    """Not shown equal, or a form that is not known. `variable`: a loop's variable that is not equal at its head."""
+    """Not shown equal, or a form that is not known. `variable`: a loop's variable that is not equal at its head; `loop`: one that
+    writes memory on one side only."""
 
-    variable = None
+    variable = loop = None
 
 
 def function(name, *sorts):

@@ -12,11 +12,11 @@ static const char help[] =
     "usage: kagutin alarms [--csv] [--base N] IMAGE..\n"
     "Lists the open alarms of images and of raw dumps of a serial FRAM, the gravest of each at the top: the lowest class,\n"
     "then the earliest second, then the lowest identity.\n"
-    "  --csv      one row an alarm: image, rank, identity, class, second\n"
+    "  --csv      one row an alarm: image, rank, identity, class, second; an image without has a row with a note\n"
     "  --base N   where the store begins in dumps (0)\n"
     "  -h, --help, --version\n"
     "The images stay as they are, and rights are not asked for. Status: 0 done, 1 homes 24 to 29 hold no list of alarms,\n"
-    "2 wrong options, 3 an image cannot be read; the others are listed all the same.\n";
+    "2 wrong options, 3 an image cannot be read; the others are listed all the same, and what was not read stands among them.\n";
 
 static int compare(const void *first, const void *second)
 {
@@ -42,9 +42,13 @@ static void print_csv(const char *path, const struct alarms_record *alarms)
 {
     size_t i;
 
+    if (alarms->count == 0) {
+        print_name(path);
+        puts(",,,,,no alarm open");
+    }
     for (i = 0; i < alarms->count; i++) {
         print_name(path);
-        printf(",%lu,%u,%u,%lu\n", (unsigned long)i + 1, alarms->open[i].identity, alarms->open[i].alarm_class,
+        printf(",%lu,%u,%u,%lu,\n", (unsigned long)i + 1, alarms->open[i].identity, alarms->open[i].alarm_class,
                (unsigned long)alarms->open[i].second);
     }
 }
@@ -66,20 +70,43 @@ static void print_text(const char *path, const struct alarms_record *alarms)
                (unsigned long)alarms->open[i].second);
 }
 
+/* What could not be read stands among the others, too, and not on standard error alone. */
+static void tell_unread(const char *path, const char *why, bool csv)
+{
+    size_t length = strlen(path);
+
+    command_say("%s", why);
+    if (strncmp(why, path, length) == 0 && strncmp(why + length, ": ", 2) == 0)
+        why += length + 2;
+    if (!csv) {
+        printf("%s: NOT READ: %s\n", path, why);
+        return;
+    }
+    print_name(path);
+    fputs(",,,,,", stdout);
+    fputs("\"not read: ", stdout);
+    for (; *why; why++)
+        printf(*why == '"' ? "\"\"" : "%c", *why);
+    puts("\"");
+}
+
 static int list(const char *path, uint64_t base, bool csv)
 {
     struct alarms_record alarms;
     struct homes homes;
     const char *why;
+    char text[160];
 
     if (!homes_read(&homes, path, base, false)) {
-        command_say("%s", homes.message);
+        tell_unread(path, homes.message, csv);
         return STATUS_TROUBLE;
     }
     why = homes.homes < RECORD_ALARMS_HOME + RECORD_ALARMS_HOMES ? "the image has fewer than 30 homes"
                                                                  : record_alarms(homes.blocks + 64 * RECORD_ALARMS_HOME, &alarms);
     if (why) {
-        command_say("%s: homes 24 to 29 hold no list of alarms: %s", path, why);
+        snprintf(text, sizeof text, "homes 24 to 29 hold no list of alarms: %s", why);
+        snprintf(homes.message, sizeof homes.message, "%.200s: %s", path, text);
+        tell_unread(path, homes.message, csv);
     } else {
         qsort(alarms.open, alarms.count, sizeof *alarms.open, compare);
         (csv ? print_csv : print_text)(path, &alarms);
@@ -106,7 +133,7 @@ int alarms_main(int count, char **words)
     if (images == 0)
         command_quit(STATUS_USAGE, "an image is expected");
     if (csv)
-        puts("image,rank,identity,class,second");
+        puts("image,rank,identity,class,second,note");
     for (i = 0; i < images; i++) {
         int got = list(words[i], base, csv);
 

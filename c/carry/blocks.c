@@ -51,17 +51,28 @@ bool blocks_hex(const char **text, uint8_t block[BLOCK_SIZE])
     return true;
 }
 
-/* "home,block" or "home: block"; a heading, blank lines and comments are passed over. "# groups G homes D" is the shape. */
+/* "# groups G homes D blocks N": the shape, and how many homes follow, which older texts do not tell. */
+static void read_shape(struct blocks *blocks, const char *text)
+{
+    unsigned long groups, homes, count;
+    int told = sscanf(text, "# groups %lu homes %lu blocks %lu", &groups, &homes, &count);
+
+    if (told < 2)
+        return;
+    blocks->groups = groups;
+    blocks->homes = homes;
+    blocks->told = told == 3 ? count : NOT_TOLD;
+    blocks->has_shape = true;
+}
+
+/* "home,block" or "home: block"; a heading, blank lines and comments are passed over. */
 static bool read_row(struct blocks *blocks, const char *text)
 {
-    unsigned long groups, homes, home;
     uint8_t block[BLOCK_SIZE];
+    unsigned long home;
     char *end;
 
-    if (sscanf(text, "# groups %lu homes %lu", &groups, &homes) == 2) {
-        blocks->groups = groups;
-        blocks->homes = homes;
-    }
+    read_shape(blocks, text);
     if (*text == '#' || text[strspn(text, " \t")] == '\0' || strcmp(text, "home,block") == 0)
         return true;
     home = strtoul(text, &end, 10);
@@ -87,6 +98,11 @@ static bool read_rows(struct blocks *blocks, char *text, size_t *line)
             return false;
         text += size + !last;
     }
+    if (!blocks->has_shape && blocks->count == 0)
+        return say(blocks, "no homes in it");
+    if (blocks->told != NOT_TOLD && blocks->told != blocks->count)
+        return say(blocks, "the text is cut off, or has lines too many: it tells of %lu homes and has %lu",
+                   (unsigned long)blocks->told, (unsigned long)blocks->count);
     return true;
 }
 
@@ -97,6 +113,7 @@ bool blocks_read(struct blocks *blocks, const char *path)
     bool done;
 
     memset(blocks, 0, sizeof *blocks);
+    blocks->told = NOT_TOLD;
     if (!text_file_read(path, &text, why, sizeof why))
         return say(blocks, "%s", why);
     blocks->bytes = (uint8_t *)calloc(MOST_HOMES, BLOCK_SIZE);
@@ -107,7 +124,8 @@ bool blocks_read(struct blocks *blocks, const char *path)
     else
         done = text[strspn(text, " \t\r\n")] == '{' ? blocks_read_json(blocks, text, &line) : read_rows(blocks, text, &line);
     free(text);
-    if (!done && line) {
+    if (!done && blocks->bytes && blocks->named) {
+        line += line == 0;
         memcpy(why, blocks->message, sizeof why - 1);
         why[sizeof why - 1] = '\0';
         say(blocks, "%.90s:%lu: %.290s", path, (unsigned long)line, why);

@@ -7,12 +7,15 @@
 #include <stdint.h>
 
 enum { BLOCK_SIZE = 64, MOST_HOMES = 65535 };
+#define NOT_TOLD SIZE_MAX
 
 struct blocks {
     size_t groups, homes; /* 0: the text does not say */
     uint8_t *bytes;       /* 64 for each of 65,535 homes; zeros where the text names none */
     bool *named;
-    size_t count; /* homes that the text names */
+    size_t count;   /* homes that the text names */
+    size_t told;    /* and how many it says that it does; NOT_TOLD if it does not */
+    bool has_shape; /* rows: there is a line with the shape */
     char message[400];
 };
 

@@ -62,11 +62,15 @@ static void print_json(const struct homes *homes)
     puts("\n]}");
 }
 
+/* The first line tells how many rows there are, so that a text that is cut off is noticed. */
 static void print_rows(const struct homes *homes, bool csv)
 {
-    size_t home;
+    size_t home, count = 0;
 
-    printf("# groups %lu homes %lu\n%s", (unsigned long)homes->groups, (unsigned long)homes->homes, csv ? "home,block\n" : "");
+    for (home = 0; home < homes->homes; home++)
+        count += !is_zero(homes->blocks + BLOCK_SIZE * home);
+    printf("# groups %lu homes %lu blocks %lu\n%s", (unsigned long)homes->groups, (unsigned long)homes->homes,
+           (unsigned long)count, csv ? "home,block\n" : "");
     for (home = 0; home < homes->homes; home++) {
         const uint8_t *block = homes->blocks + BLOCK_SIZE * home;
 

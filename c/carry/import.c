@@ -91,7 +91,7 @@ static void make_image(const struct blocks *blocks, size_t groups, size_t homes,
     fill(&made, blocks, homes);
     if (!new_file_write(path, made.lasting, made.size, message, sizeof message))
         command_quit(STATUS_TROUBLE, "%s", message);
-    printf("%s: %lu homes of %lu filled, %lu groups\n", path, (unsigned long)blocks->count, (unsigned long)homes,
+    printf("%s: %lu of %lu homes filled, %lu groups\n", path, (unsigned long)blocks->count, (unsigned long)homes,
            (unsigned long)groups);
     free(made.memory);
     free(made.lasting);
@@ -124,7 +124,10 @@ int import_main(int count, char **words)
         command_quit(STATUS_TROUBLE, "%s", blocks.message);
     groups = groups ? groups : blocks.groups;
     homes = homes ? homes : blocks.homes;
-    if (groups < KAGUTIN_MIN_GROUPS || groups > KAGUTIN_MAX_GROUPS || homes < KAGUTIN_MIN_HOMES || homes > KAGUTIN_MAX_HOMES)
+    if (groups > KAGUTIN_MAX_GROUPS || homes > KAGUTIN_MAX_HOMES || (groups && groups < KAGUTIN_MIN_GROUPS))
+        command_quit(STATUS_TROUBLE,
+                     "%s: groups go from 4 to 1024 and homes from 1 to 65535; --groups N and --homes N set others", paths[0]);
+    if (groups == 0 || homes == 0)
         command_quit(STATUS_TROUBLE, "%s: it does not say how many groups and homes there are; --groups N and --homes N do",
                      paths[0]);
     make_image(&blocks, (size_t)groups, (size_t)homes, paths[1]);

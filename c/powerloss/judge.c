@@ -202,14 +202,26 @@ static const char *find_elsewhere(struct kgt_powerloss *kit, const struct unit *
     return "it gives bytes that nobody wrote";
 }
 
+/* The earlier call that wrote what was found to this place. */
+static unsigned find_older(struct kgt_powerloss *kit, const struct unit *unit, unsigned now)
+{
+    unsigned older = writer_of(kit, unit, 0, now);
+
+    kit->fault.elsewhere_at = (uint32_t)kit->fault.at;
+    return older;
+}
+
 static const char *find_remark(struct kgt_powerloss *kit, const struct unit *unit, unsigned now)
 {
     if (kit->fault.duty == KGT_DUTY_LOAD_COPIES)
         return find_elsewhere(kit, unit, now);
-    if (kit->fault.duty == KGT_DUTY_WRITE_WHOLE && unit->from == 0)
-        return "the header is torn: where the medium does not keep its first word whole the driver must, as c/drivers/fram.c "
-               "does";
-    return NULL;
+    if (kit->fault.duty != KGT_DUTY_WRITE_WHOLE)
+        return NULL;
+    if (unit->size > WORD)
+        return "blocks of 64 bytes are promised, by KGT_LANDS_BLOCKS";
+    if (unit->from < KAGUTIN_HEADER_SIZE)
+        return "the header is torn: if the medium does not keep its words whole the driver must, as c/drivers/fram.c does";
+    return "words of 8 bytes are promised, by KGT_LANDS_WORDS";
 }
 
 static void tell(struct kgt_powerloss *kit, const struct unit *unit, const struct allowed *allowed, unsigned now)
@@ -227,7 +239,8 @@ static void tell(struct kgt_powerloss *kit, const struct unit *unit, const struc
     memcpy(fault->found, unit->found, unit->size);
     memcpy(fault->right, fault->writer == KGT_PL_BY_LOAD ? kit->given + unit->from : written(kit, fault->writer, unit),
            unit->size);
-    fault->elsewhere = KGT_PL_BY_LOAD;
+    fault->elsewhere =
+        fault->duty == KGT_DUTY_FENCE || fault->duty == KGT_DUTY_LOAD_LAST ? find_older(kit, unit, now) : KGT_PL_BY_LOAD;
     fault->remark = find_remark(kit, unit, now);
 }
 

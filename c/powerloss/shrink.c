@@ -105,6 +105,13 @@ static void simplify_end(struct kgt_powerloss *kit)
     }
 }
 
+/* What was kept is gone only if power fails inside the last call. */
+static bool taken_away(const struct kgt_powerloss *kit)
+{
+    return (kit->fault.duty == KGT_DUTY_FENCE || kit->fault.duty == KGT_DUTY_LOAD_STAYS) && !kit->end.failing
+        && kit->end.landings != UINT64_MAX;
+}
+
 /* A fence that does not keep its duty: does the write arrive by itself, with a later fence, or never? */
 static void look_at_fence(struct kgt_powerloss *kit)
 {
@@ -112,7 +119,7 @@ static void look_at_fence(struct kgt_powerloss *kit)
     struct kgt_powerloss_end end = kit->end;
     struct kgt_pl_seen seen;
 
-    if (fault.duty != KGT_DUTY_FENCE)
+    if (fault.duty != KGT_DUTY_FENCE || taken_away(kit))
         return;
     end.wait = true;
     if (kgt_pl_trial(kit, &end, &seen)) {
@@ -125,7 +132,7 @@ static void look_at_fence(struct kgt_powerloss *kit)
             fault.remark =
                 "the write is held back past its fence and comes with a later call: writes made after the fence arrive before it";
         } else {
-            fault.remark = "nor do more fences bring the write: it was not sent, or it was lost";
+            fault.remark = "nor do more fences bring the write: it was not sent, it was lost, or load gives an older one";
         }
     }
     kit->fault = fault;
@@ -153,8 +160,11 @@ static void show_again(struct kgt_powerloss *kit)
 
     kgt_pl_trial(kit, &kit->end, &seen);
     kit->fault.duty = duty;
-    kit->fault.remark =
-        hidden_failure(kit) ? "the medium has failed and no call returned an error: one was not handed on" : remark;
+    if (hidden_failure(kit))
+        remark = "the medium has failed and no call returned an error: one was not handed on";
+    else if (taken_away(kit))
+        remark = "it was there: a cut inside a later call, the last one, takes it away";
+    kit->fault.remark = remark;
 }
 
 void kgt_pl_shrink(struct kgt_powerloss *kit)

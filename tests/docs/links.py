@@ -18,8 +18,13 @@ MADE = ('target/', 'rust/target/', 'build/')
 
 
 def tracked():
-    out = subprocess.run(['git', 'ls-files'], capture_output=True, text=True, check=True).stdout
-    return out.split('\n')[:-1]
+    """What is checked in; where there is no git, as in an unpacked archive, all files but those that a build makes."""
+    try:
+        out = subprocess.run(['git', 'ls-files'], capture_output=True, text=True, check=True).stdout
+        return out.split('\n')[:-1]
+    except (OSError, subprocess.CalledProcessError):
+        found = [os.path.relpath(os.path.join(folder, name)) for folder, _, names in os.walk('.') for name in names]
+        return [file for file in found if not file.startswith(MADE)]
 
 
 def folders(files):

@@ -11,7 +11,7 @@ examples, made by one change: the judge must refuse them.
 Commands. Every line of a block fenced as sh is run here, in a folder for each page with the files that the page shows
 (<!-- file: NAME -->) and those of inputs(); what stands under <!-- printed --> must have been printed. ELSEWHERE and
 OTHER_TEST name those that are not run here, and why. make builds into OUT as it was told to; the rest runs in the folder.
-Sessions, fenced as console, are run by tests/programs/documents.py.
+Sessions, fenced as console, are run by tests/programs/documents.py; blocks fenced as rust by cargo test, on the pages that RUST_CRATE takes in.
 
 Prints a line for each test; the last line counts them. Status 1 if one failed.
 """
@@ -31,8 +31,11 @@ FRAMES = "tests/docs/snippets"
 SHARED = FRAMES + "/tries.c"
 INCLUDE = ["-Iinclude", "-Idist", "-I" + FRAMES]
 PROGRAMS = "target/c"  # as the pages name it
+README_SIZE = 7000
+RUST_CRATE = "rust/kagutin/src/lib.rs"
 
 STRICT = "-Wall -Wextra -pedantic -Wshadow -Wconversion -Werror -O1".split()
+CASTS = {"gcc": ["-Wold-style-cast", "-Wuseless-cast"], "clang": ["-Wold-style-cast"]}  # as C++: examples and headers have none
 SANITIZE = "-g -fno-omit-frame-pointer -fsanitize=address,undefined -fno-sanitize-recover=all".split()
 CC = os.environ.get("CC", "cc").split()  # made the libraries
 BUILDS = [(family, standard) for family in ("gcc", "clang") for standard in ("c99", "c11", "c++17")]
@@ -116,8 +119,10 @@ def fenced(page, text):
             blocks.append(inside)
             if inside.kind == "c" and not inside.named("snippet"):
                 wrong.append("%s:%d: a C block without the name of a snippet" % (page, number))
-            if inside.kind not in ("c", "sh", "text", "console"):
-                wrong.append("%s:%d: a block of kind '%s'; c, sh, text and console are known" % (page, number, inside.kind))
+            if inside.kind == "rust" and '/%s"' % page not in text_of(RUST_CRATE):
+                wrong.append("%s:%d: a Rust block on a page that the crate does not test" % (page, number))
+            if inside.kind not in ("c", "sh", "text", "console", "rust"):
+                wrong.append("%s:%d: a block of kind '%s'; c, sh, text, console and rust are known" % (page, number, inside.kind))
         elif re.match(r" {4}\S", line) and not last.strip():
             wrong.append("%s:%d: an indented block; fence it as c, sh or text" % (page, number))
         elif marker.startswith("<!-- snippet"):
@@ -146,6 +151,7 @@ def in_comments(header_text):
 def check_forms():
     """What must be found in a page, and what in a header."""
     pages = [("```c\nint x;\n```", "without the name"), ("<!-- snippet: x -->\ntext", "no C block"), ("```\nx\n```", "kind ''"),
+             ("```rust\nx\n```", "does not test"),
              ("text\n\n    int x;\n", "indented"), ("<!-- snippet: x -->\n```c\nint x;\n```\n- item\n    more of it", None)]
     right = True
     for text, complaint in pages:
@@ -204,7 +210,7 @@ def run(command, folder=None, limit=120):
 
 def compiler(family, standard):
     if standard.startswith("c++"):
-        return ["g++" if family == "gcc" else "clang++", "-x", "c++"]
+        return ["g++" if family == "gcc" else "clang++", "-x", "c++", *CASTS[family]]
     return [family]
 
 
@@ -315,6 +321,8 @@ def main(words):
     split = words.index("--sanitized") if "--sanitized" in words else len(words)
     out, libraries, sanitized = words[0], words[1:split], words[split + 1:]
     check_forms()
+    size = os.path.getsize("README.md")
+    report(size <= README_SIZE, "README.md is one page: %d bytes of %d" % (size, README_SIZE))
     found, wrong, pages = snippets()
     framed, misplaced = frames()
     wrong += misplaced

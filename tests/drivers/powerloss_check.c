@@ -61,7 +61,9 @@ static void check_broken(enum broken kind, bool show)
     static const enum kgt_duty duties[BROKEN_KINDS] = {KGT_DUTIES_KEPT,      KGT_DUTY_FENCE,      KGT_DUTY_FENCE,
                                                        KGT_DUTY_WRITE_WHOLE, KGT_DUTY_LOAD_STAYS, KGT_DUTY_LOAD_LAST,
                                                        KGT_DUTY_WRITE_TIME};
-    static const char *const remarks[BROKEN_KINDS] = {"",         "nor do more fences bring the write", "too early", "", "", "",
+    static const char *const remarks[BROKEN_KINDS] = {"",          "nor do more fences bring the write",
+                                                      "too early", "by KGT_LANDS_WORDS",
+                                                      "",          "",
                                                       "held back"};
     const char *name = broken_names[kind];
 
@@ -79,6 +81,40 @@ static void check_broken(enum broken kind, bool show)
     printf(kind == BROKEN_NOT ? "; %u trials\n" : "%u calls\n", kind == BROKEN_NOT ? (unsigned)kit.trials : taken());
     if (show)
         printf("%s\n", report);
+}
+
+/* ---- a good driver whose cache cannot be dropped: it writes back what it shows, as that for files does ---- */
+
+static int write_back_and_load(void *context, enum kgt_area area, size_t at, uint8_t *bytes, size_t size)
+{
+    static uint8_t all[SIZE];
+    int error = kgt_sim_read(&broken.sim, 0, all, SIZE);
+
+    (void)context;
+    error = error ? error : kgt_sim_write(&broken.sim, 0, all, SIZE);
+    error = error ? error : kgt_sim_flush(&broken.sim);
+    return error ? error : kgt_sim_read(&broken.sim, (area == KGT_LOG ? 0 : KGT_LOG_SIZE(GROUPS)) + at, bytes, size);
+}
+
+static struct kgt_driver start_writing_back(void *context)
+{
+    struct kgt_driver driver = broken_start(context);
+
+    driver.load = write_back_and_load;
+    return driver;
+}
+
+static void check_writing_back(void)
+{
+    prepare("writing back");
+    broken_init(&broken, BROKEN_NOT, medium_memory, GROUPS, HOMES);
+    kit.start = start_writing_back;
+    kit.context = &broken;
+    kit.medium = kgt_sim_medium(&broken.sim);
+    kit.histories = 1;
+    kit.every = 11;
+    check(kgt_powerloss_run(&kit), "its duties", "writing back");
+    printf("powerloss_check: a good driver that writes back: %lu trials\n", (unsigned long)kit.trials);
 }
 
 /* ---- the FRAM driver ---- */
@@ -194,6 +230,7 @@ int main(int count, char **words)
 
     for (kind = BROKEN_NOT; kind < BROKEN_KINDS; kind++)
         check_broken((enum broken)kind, show);
+    check_writing_back();
     check_memory(false);
     check_memory(true);
     check_fram(every ? every : 1);

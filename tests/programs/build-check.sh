@@ -20,7 +20,7 @@ counts() {
 }
 
 # --- versions ---
-for file in meson.build library.json idf_component.yml arduino/library.properties; do
+for file in meson.build library.json idf_component.yml arduino/library.properties debian/changelog rust/kagutin/Cargo.toml kagutin.wrap; do
     grep -q -F "$version" $file; report $? "$file is of version $version"
 done
 if there python3 library.json; then
@@ -36,6 +36,9 @@ if there cmake CMake; then
         gives 0 "$name: built" cmake --build "$at/build"
         counts "$at/build/counter" $name
     done
+    gives 0 "zephyr: drivers on stub devices, power gone after every byte" "$at/build/devices"
+    cat "$tmp/out"
+    gives 1 "zephyr: a chip that is done too early is found out" "$at/build/devices" wrong
     project cmake-installed source
     gives 0 "cmake: library configured" cmake -S "$at/source" -B "$at/library" -DCMAKE_INSTALL_PREFIX="$at/with space"
     gives 0 "cmake: library installed" cmake --build "$at/library" --target install
@@ -58,6 +61,14 @@ if there meson Meson && there ninja Meson; then
     gives 0 "meson: configured" meson setup "$at/build" "$at"
     gives 0 "meson: built" meson compile -C "$at/build"
     counts "$at/build/counter" meson
+    if there git "the Meson wrap"; then
+        project meson-wrap source && mkdir "$at/subprojects" && rm -rf "$tmp/origin" && mv "$at/source" "$tmp/origin"
+        gives 0 "meson-wrap: a repository to fetch from" sh -c "cd '$tmp/origin' && git init -q && git add . && git -c user.name=a -c user.email=a@b commit -q -m a && git tag v$version"
+        sed "s|^url = .*|url = $tmp/origin|" kagutin.wrap > "$at/subprojects/kagutin.wrap"
+        gives 0 "meson-wrap: fetched and configured" meson setup "$at/build" "$at"
+        gives 0 "meson-wrap: built" meson compile -C "$at/build"
+        counts "$at/build/counter" meson-wrap
+    fi
 fi
 
 # --- Arduino: the library's folder, and its example with stand-ins for Arduino's headers ---
@@ -91,5 +102,13 @@ installs "a prefix with a space" PREFIX="$tmp/with space" "$tmp/with space" ""
 installs "a relative prefix" PREFIX=target/relative "$PWD/target/relative" ""
 installs "a library folder" PREFIX="$tmp/usr" "$tmp/usr" "$tmp/usr/lib/x86_64-linux-gnu"
 rm -rf target/relative
+
+# A staging folder with a space: all lies below it, and the pkg-config files do not know of it.
+stage="$tmp/a stage"
+gives 0 "install, DESTDIR with a space" "${MAKE:-make}" -s install DESTDIR="$stage" PREFIX=/usr
+[ -f "$stage/usr/lib/libkagutin.a" ] && [ -x "$stage/usr/bin/kagutin" ] && grep -q '^prefix=/usr$' "$stage/usr/lib/pkgconfig/kagutin.pc"
+report $? "install, DESTDIR with a space: in its place"
+gives 0 "uninstall, DESTDIR with a space" "${MAKE:-make}" -s uninstall DESTDIR="$stage" PREFIX=/usr
+[ -z "$(find "$stage" -type f)" ]; report $? "uninstall, DESTDIR with a space: nothing is left"
 
 count build-check

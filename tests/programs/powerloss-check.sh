@@ -1,5 +1,5 @@
 #!/bin/sh
-# Tests of the power-loss kit: powerloss-check.sh FOLDER-OF-THE-PROGRAMS (run by make powerloss-check from the root).
+# Tests of the power-loss kit: powerloss-check.sh FOLDER-OF-THE-PROGRAMS (run by make powerloss-check from the root; LIB is the library).
 # Prints one line per test; the last line counts them. Status 1 if one failed.
 set -u
 out=$1
@@ -32,6 +32,9 @@ grep -v -x -F -f "$tmp/out" "$tmp/shown" > "$tmp/log"
 [ -s "$tmp/shown" ] && [ ! -s "$tmp/log" ]; report $? "the report in docs/DRIVERS.md is what is printed"
 gives 0 "the same under sanitizers" "$san/powerloss_check" 97
 
+# --- faults of drivers that were written from the documents: the report leads to them ---
+gives 0 "torn header, mistaken address, lost error and others" "$san/powerloss_faults"
+
 # --- a duty's words are those of docs/DRIVERS.md ---
 missing=0
 for words in "returns when every earlier write is in lasting memory" "may arrive at any time up to the next fence" \
@@ -43,5 +46,19 @@ report $missing "duties in the words of docs/DRIVERS.md"
 # --- a process for a board, ended where its relay cuts ---
 gives 0 "by a relay: notes carry it over each cut; files, killed" "$out/relay_check" "$tmp"
 gives 0 "the same under sanitizers" "$san/relay_check" "$tmp"
+
+# --- installed: the example of docs/DRIVERS.md, linked outside; the sources, as for a board ---
+gives 0 "make install" "${MAKE:-make}" -s -f make/c.mk LIB="$LIB" C_LIBS="${C_LIBS:-}" PREFIX="$tmp/usr" install
+awk '/^<!-- snippet: drivers_powerloss/ { inside = 1; next } /^```$/ { inside = 0 } inside && !/^```/' docs/DRIVERS.md > "$tmp/try.c"
+printf 'int main(void)\n{\n    return !try_driver();\n}\n' >> "$tmp/try.c"
+if command -v pkg-config > /dev/null; then
+    flags=$(PKG_CONFIG_PATH="$tmp/usr/lib/pkgconfig" pkg-config --cflags --libs kagutin)
+    gives 0 "the example, built outside" sh -c "${CC:-cc} -O1 '$tmp/try.c' -lkagutin_powerloss $flags -o '$tmp/try'"
+    gives 0 "and run" "$tmp/try"
+    shows '^powerloss: no duty was seen broken; [0-9]* trials$'
+else
+    echo "skipped the example outside: no pkg-config"
+fi
+gives 0 "the installed sources" sh -c "for file in '$tmp'/usr/share/kagutin/powerloss/*.c; do ${CC:-cc} -std=c99 -Wall -Werror -I'$tmp/usr/include' -c \$file -o '$tmp/one.o' || exit 1; done"
 
 count powerloss-check

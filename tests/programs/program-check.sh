@@ -187,6 +187,17 @@ row=1,$(printf '%0128d' 0)
 text "$row\n$row\n" 'bad.txt:2: home 1 stands here a second time' "twice"
 text "99999$row\n" 'bad.txt:1: home 999991: homes go' "a large home"
 text '\0' 'a zero byte' "a zero byte"
+text '' 'bad.txt:1: no homes in it' "an empty text"
+text '# groups 4 homes 8\n{}\n' 'bad.txt:2: a row is' "a brace"
+for kind in csv hex; do
+    sed '$d' "$tmp/homes.$kind" > "$tmp/cut.txt"
+    says "cut.txt:.*: the text is cut off, or has lines too many: it tells of [0-9]* homes and has" 3 "a text as $kind cut off" "$k" import "$tmp/cut.txt" "$tmp/none.img"
+    sed '1s/ blocks.*//' "$tmp/homes.$kind" > "$tmp/old.txt"
+    rm -f "$tmp/old.img"
+    gives 0 "a text that does not tell how many" "$k" import "$tmp/old.txt" "$tmp/old.img"
+done
+printf '{"groups":99999,"homes":12,"blocks":[]}' > "$tmp/shape.json"
+says "groups go from 4 to 1024" 3 "a text with a wrong shape" "$k" import "$tmp/shape.json" "$tmp/none.img"
 [ ! -e "$tmp/none.img" ]; report $? "none of them makes an image"
 printf '%s\n' "$row" > "$tmp/plain.txt"
 says "does not say how many groups" 3 "no shape" "$k" import "$tmp/plain.txt" "$tmp/none.img"
@@ -232,10 +243,15 @@ fi
 
 # --- alarms, and what lies in the homes of units and is none ---
 gives 0 "alarms as CSV" "$k" alarms --csv "$tmp/new.img"
-shows '^image,rank,identity,class,second$'
+shows '^image,rank,identity,class,second,note$'
 says "fewer than 30 homes" 1 "alarms of a small image" "$k" alarms "$tmp/small.img"
 says "cannot be opened" 3 "alarms of a missing image" "$k" alarms "$tmp/missing.img" "$tmp/new.img"
 shows 'alarm.* open'
+shows 'missing.img: NOT READ: cannot be opened: No such file'
+gives 3 "the same as CSV" "$k" alarms --csv "$tmp/missing.img" "$tmp/small.img" "$tmp/north.img" "$tmp/new.img"
+shows 'missing.img,,,,,"not read: cannot be opened: No such file or directory"$'
+shows 'small.img,,,,,"not read: homes 24 to 29 hold no list of alarms: the image has fewer than 30 homes"$'
+shows 'north.img,,,,,no alarm open$'
 gives 0 "an image" "$k" make "$tmp/units.img" 4 30
 homes=$((64 + 512 * 4))
 put() { printf "$2" | dd of="$tmp/units.img" bs=1 seek="$1" conv=notrunc 2> /dev/null; }

@@ -26,6 +26,9 @@ for compiler in g++ clang++; do
         gives 0 "built: $compiler, $standard" $compiler -std=$standard $flags -O1 tests/store/wrapper_check.cpp "$@" -o "$tmp/wrapper"
         gives 0 "run" "$tmp/wrapper"
     done
+    mkdir -p "$tmp/alone" && cp dist/kagutin_all.h include/kagutin.hpp "$tmp/alone"
+    # shellcheck disable=SC2046,SC2086 # one word for each flag
+    gives 0 "beside kagutin_all.h alone: $compiler" $compiler -std=c++11 $(echo "$flags" | sed 's|-Iinclude||') -I"$tmp/alone" -fsyntax-only -x c++ "$tmp/alone/kagutin.hpp"
     gives 0 "without exceptions and type information: $compiler" $compiler -std=c++11 $flags -fno-exceptions -fno-rtti -fsyntax-only -x c++ include/kagutin.hpp
 done
 if command -v g++ > /dev/null; then

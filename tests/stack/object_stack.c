@@ -156,13 +156,13 @@ static int prepare(size_t groups, enum kgt_room room, uint64_t left, int promise
     return 1;
 }
 
-/* All calls from each of the states, each from a fresh copy of it. */
+/* All calls from each of the states, each from a fresh copy of it: a full log, one with some room, one with places promised. */
 static int measure_all(size_t groups, enum kgt_room room)
 {
-    static const struct {
+    const struct {
         uint64_t left;
         int promised;
-    } states[] = {{0, 0}, {100, 0}, {11, 1}};
+    } states[] = {{0, 0}, {groups < 16 ? 14 : 100, 0}, {11, 1}};
     unsigned which, i;
 
     for (i = 0; i < sizeof states / sizeof *states; i++) {
@@ -206,10 +206,13 @@ static unsigned long show(size_t groups, enum kgt_room room)
 
 int main(void)
 {
-    int over = show(64, KGT_ROOM_AT_ONCE) > 6144; /* bytes: 6 KiB, 33 KiB, 2.5 KiB */
+    static const size_t shapes[] = {4, 16, 64, MOST_GROUPS};
+    unsigned i;
+    int over = 0;
 
-    over |= show(64, KGT_ROOM_BY_MAINTAIN) > 2560;
-    over |= show(MOST_GROUPS, KGT_ROOM_AT_ONCE) > 33792;
-    over |= show(MOST_GROUPS, KGT_ROOM_BY_MAINTAIN) > 2560;
+    for (i = 0; i < sizeof shapes / sizeof *shapes; i++) {
+        over |= show(shapes[i], KGT_ROOM_AT_ONCE) > (shapes[i] <= 64 ? 6144 : 33792); /* bytes: 6 KiB, 33 KiB, 2.5 KiB */
+        over |= show(shapes[i], KGT_ROOM_BY_MAINTAIN) > 2560;
+    }
     return over;
 }

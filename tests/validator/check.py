@@ -1,112 +1,50 @@
 #!/usr/bin/env python3
 """Tests of validate/: what is right it must accept, what is wrong it must refuse.
 
-    check.py [--quick] [--seed N] VALIDATE-WORDS      the words after --include that make validate gives
+    check.py [--quick] [--seed N] [--jobs N] [--done FILE] VALIDATE-WORDS      the words after --include that make validate gives
 
 Random programs, translated with the passes and without: accepted, and both builds give the same. Wrong edits of their C: refused, unless
-both texts give the same on many inputs. Wrong edits of dist/: refused but for a few, which are printed. Faults in port/: refused.
+both texts give the same on many inputs. Wrong edits of dist/: refused, unless the compiler makes the same code of both or equivalent.py
+says why they mean the same. Tricks and faults in port/: refused, all of them.
+
+FILE holds what was done, and what it was done with; the next call goes on from there.
 """
-import ctypes
+import hashlib
+import json
+import multiprocessing
 import os
 import random
 import shutil
-import subprocess
 import sys
 import tempfile
 import time
 
-HERE = os.path.dirname(os.path.abspath(__file__))
-ROOT = os.path.dirname(os.path.dirname(HERE))
-sys.path[:0] = [os.path.join(ROOT, 'validate'), HERE]
+from subjects import HERE, ROOT, TARGETS, Failed, generate, machine_code, refusal, refusals, refused_somewhere, same_behaviour, text_of, write
 
-from c_text import CFile, preprocessed  # noqa: E402
+from equivalent import EQUIVALENT  # noqa: E402
 from faults import FAULTS  # noqa: E402
-from files import File, Words  # noqa: E402
-from helpers import HELPERS  # noqa: E402
-from mutations import functions, mutant  # noqa: E402
+from files import Words  # noqa: E402
+from joined import check_joined  # noqa: E402
+from mutations import functions, mutant, wrong_edits  # noqa: E402
 from program import Program  # noqa: E402
-from programs import EXPORTED, LEAST, write_program  # noqa: E402
-from solver import Solver  # noqa: E402
-from targets import targets  # noqa: E402
+from programs import write_program  # noqa: E402
 from terms import Refused  # noqa: E402
+from tricks import JOINED, TRICKS  # noqa: E402
 from validate import read_words  # noqa: E402
 
-TARGETS = list(targets())
-INPUTS = 300            # tried where a wrong edit is accepted
-FEW = 0.1               # of the wrong edits of dist/ may mean the same
+TOGETHER = 10           # wrong edits of one file at once
+SHARED = {}             # include folder, words of the files and the program, before the processes start
 
 
-def fail(message):
-    raise SystemExit(f'validate-check: FAILED: {message}')
+def given(path):
+    """The words that the makefiles have for a file of dist/."""
+    words = next(words for words in SHARED['words'] if words.path == path)
+    return [word for pair in words.given for word in pair]
 
 
-def write(path, text):
-    with open(path, 'w', encoding='utf-8') as handle:
-        handle.write(text)
-
-
-def text_of(path):
-    with open(path, encoding='utf-8') as handle:
-        return handle.read()
-
-
-def generate(port, words, out, *passes):
-    """None, or what the generator says when it stops."""
-    given = [word for pair in zip(words[::2], words[1::2]) for word in pair]
-    run = subprocess.run([sys.executable, os.path.join(port, 'generate.py'), *given, *passes, '--out', out], capture_output=True, text=True, cwd=ROOT)
-    return run.stderr.strip()[-200:] if run.returncode else None
-
-
-def refusal(program, words, path, include, target, names=None, helpers=()):
-    """What the validator says against a file, or None. `names`: only these functions."""
-    try:
-        file = File(program, Words(path, words), include, target)
-        file.check_border()
-        solver = Solver('z3')
-        for name in helpers:
-            file.check_helper(solver, name)
-        for name in names if names is not None else file.functions():
-            file.validate(solver, name)
-    except Refused as refused:
-        return str(refused)
-    except Exception as error:                                      # as validate.py has it: what nothing was made for is refused
-        return f'{type(error).__name__}: {error}'
-    return None
-
-
-# ---- random programs, and wrong edits of them
-
-def build(folder, path, name):
-    out = os.path.join(folder, name + '.so')
-    run = subprocess.run(['cc', '-std=c99', '-O1', '-w', '-fPIC', '-shared', '-I' + folder, path, '-o', out], capture_output=True, text=True)
-    return None if run.returncode else ctypes.CDLL(out)
-
-
-def behaviour(library, seed):
-    """What the exported functions give and leave on random inputs, in a process of its own: wrong C may end it."""
-    rng, out = random.Random(seed), []
-    for _ in range(INPUTS):
-        data = rng.randbytes(rng.choice([LEAST - 1, LEAST, LEAST + 9]))
-        a, b = (rng.choice([rng.randrange(20), rng.getrandbits(64), rng.getrandbits(64) >> rng.randrange(64)]) for _ in range(2))
-        for k in range(EXPORTED):
-            held = (ctypes.c_uint8 * (len(data) + 64)).from_buffer_copy(data + bytes(64))
-            call = getattr(library, f'call_{k}')
-            call.restype = ctypes.c_uint64
-            out.append((call(ctypes.c_uint64(a), ctypes.c_uint64(b), held, ctypes.c_size_t(len(data))), bytes(held)))
-    return out
-
-
-def same_behaviour(folder, one, other, tag):
-    """Whether two C files do the same; a crash, or a build that fails, is another behaviour. In a child process."""
-    child = os.fork()
-    if child == 0:
-        libraries = [build(folder, path, f'{tag}{k}') for k, path in enumerate((one, other))]
-        os._exit(0 if all(libraries) and behaviour(libraries[0], 7) == behaviour(libraries[1], 7) else 1)
-    return os.waitpid(child, 0)[1] == 0
-
+# ---- one task each: gives counts by name, or raises Failed
 
 def random_program(seed, mutants):
-    """(accepted functions, wrong edits refused, wrong edits that mean the same)."""
     with tempfile.TemporaryDirectory() as folder:
         words = write_program(folder, seed)
         program, target = Program(f'{folder}/rlib'), TARGETS[seed % len(TARGETS)]
@@ -114,129 +52,192 @@ def random_program(seed, mutants):
         for out, passes in ((path, ()), (plain, ('--no-passes',))):
             said = generate(os.path.join(ROOT, 'port'), words, out, *passes) or refusal(program, words, out, folder, target)
             if said:
-                fail(f'random program {seed}, {target.name} {" ".join(passes)}: {said}')
+                raise Failed(f'random program {seed}, {target.name} {" ".join(passes)}: {said}')
         if not same_behaviour(folder, path, plain, 'right'):
-            fail(f'random program {seed}: with the passes and without, two behaviours')
-        rng, refused, same, text = random.Random(seed), 0, 0, text_of(path)
+            raise Failed(f'random program {seed}: with the passes and without, two behaviours')
+        rng, counts, text = random.Random(seed), {'programs': 1, 'refused': 0, 'do the same': 0}, text_of(path)
+        counts['functions'] = len(functions(text))
         for k in range(mutants):
             name, wrong, what = mutant(rng, text, functions(text))
             write(f'{folder}/wrong.c', wrong)
             if refusal(program, words, f'{folder}/wrong.c', folder, target, [name]):
-                refused += 1
+                counts['refused'] += 1
             elif same_behaviour(folder, path, f'{folder}/wrong.c', f'wrong{k}'):
-                same += 1
+                counts['do the same'] += 1
             else:
-                fail(f'random program {seed}, {target.name}: {name} was accepted with {what}')
-        return len(functions(text)), refused, same
+                raise Failed(f'random program {seed}, {target.name}: {name} was accepted with {what}')
+        return counts
 
 
-def random_programs(seeds, mutants):
-    counts = [random_program(seed, mutants) for seed in seeds]
-    functions_, refused, same = (sum(column) for column in zip(*counts))
-    print(f'validate-check: {len(seeds)} random programs accepted, {functions_} functions; of {refused + same} wrong edits {refused} refused, '
-          f'{same} do the same')
+def dist_edits(k):
+    """Wrong edits, each of another function of one file: a call there is not interpreted, so they do not meet. Two of three times the
+    store's own file, else all files in turn."""
+    files = [words.path for words in SHARED['words']]
+    right = files[0] if k % 3 else files[k // 3 % len(files)]
+    lines, edits = text_of(right).split('\n'), wrong_edits(random.Random(k), text_of(right), TOGETHER)
+    with tempfile.TemporaryDirectory() as folder:
+        path, target = os.path.join(folder, os.path.basename(right)), TARGETS[k % len(TARGETS)]
+
+        def against(names):
+            write(path, '\n'.join({**dict(enumerate(lines)), **{n: line for name in names for n, line in edits[name][0].items()}}.values()))
+            return refusals(SHARED['program'], given(right), path, SHARED['include'], target, names)
+        refused = against(list(edits))
+        refused = {name for name in edits if against([name])} if '' in refused else set(refused)
+        counts = {'refused': len(refused)}
+        for name in sorted(set(edits) - refused):
+            against([name])
+            how = explained(right, path, name, edits[name][1], folder)
+            counts[how] = counts.get(how, 0) + 1
+        return counts
 
 
-# ---- wrong edits of dist/
-
-def dist_mutants(include, all_words, count, seed):
-    program, rng, accepted = Program(all_words[0].one('--rlib')), random.Random(seed), []
-    for k in range(count):
-        words = all_words[0] if k % 3 else all_words[k // 3 % len(all_words)]
-        given = [word for pair in words.given for word in pair]
-        text = text_of(words.path)
-        name, wrong, what = mutant(rng, text, functions(text))
-        with tempfile.TemporaryDirectory() as folder:
-            path = os.path.join(folder, os.path.basename(words.path))
-            write(path, wrong)
-            if not refusal(program, given, path, include, TARGETS[k % len(TARGETS)], [name]):
-                accepted.append(f'{name}: {what}')
-    for line in accepted:
-        print(f'  means the same to the validator: {line}')
-    print(f'validate-check: of {count} wrong edits of dist/ {count - len(accepted)} refused')
-    if len(accepted) > FEW * count:
-        fail('too many wrong edits of dist/ accepted')
+def explained(right, path, name, what, folder):
+    """Why an accepted edit means the same."""
+    if machine_code(path, SHARED['include'], f'{folder}/wrong.o') == machine_code(right, SHARED['include'], f'{folder}/right.o'):
+        return 'the same machine code'
+    if (name, what) in EQUIVALENT:
+        return 'the same by a reason in equivalent.py'
+    raise Failed(f'{right}: {name} was accepted with an edit that equivalent.py does not explain: {what}')
 
 
-# ---- faults in port/
+def trick(k):
+    right, old, new, what = TRICKS[k]
+    text = text_of(right)
+    if old not in text:
+        raise Failed(f'no text in {right} to make wrong: {old}')
+    with tempfile.TemporaryDirectory() as folder:
+        path = os.path.join(folder, os.path.basename(right))
+        write(path, text.replace(old, new, 1))
+        if machine_code(path, SHARED['include'], f'{folder}/wrong.o') is None:
+            raise Failed(f'{right}: a trick that does not compile: {what}')
+        if not refused_somewhere(right, path, SHARED['include'], SHARED['program'], given(right)):
+            raise Failed(f'{right}: a trick that is not refused: {what}')
+    return {'refused': 1}
+
+
+def joined_edit(k):
+    old, new, in_header, what = JOINED[k]
+    texts = {'.c': text_of(SHARED['joined']), '.h': text_of(SHARED['joined'][:-2] + '.h')}
+    at = texts['.c'].index('==== dist/kagutin_hours.c') if not in_header else 0
+    which = '.h' if in_header else '.c'
+    with tempfile.TemporaryDirectory() as folder:
+        for end, text in texts.items():
+            write(f'{folder}/all{end}', text[:at] + text[at:].replace(old, new, 1) if end == which else text)
+        if text_of(f'{folder}/all{which}') == texts[which]:
+            raise Failed(f'no text in the joined file to make wrong: {old}')
+        try:
+            check_joined(f'{folder}/all.c', f'{folder}/all.h', [words.path for words in SHARED['words']], SHARED['include'])
+        except Refused:
+            return {'refused': 1}
+    raise Failed(f'an edit of the joined file that is not refused: {what}')
+
 
 def port_with(folder, file, old, new):
     port = os.path.join(folder, 'port')
     shutil.copytree(os.path.join(ROOT, 'port'), port, ignore=shutil.ignore_patterns('__pycache__', 'replay'))
     text = text_of(os.path.join(port, file))
     if old not in text:
-        fail(f'no text in {file} to make wrong: {old}')
+        raise Failed(f'no text in {file} to make wrong: {old}')
     write(os.path.join(port, file), text.replace(old, new))
     return port
 
 
-def differing(right, wrong, include, target):
-    """The functions and helpers of the wrong file whose text is another than in the right one."""
-    files = [CFile(preprocessed(path, include, target), path, target) for path in (right, wrong)]
-    changed = [name for name in files[1].own if name not in files[0].own or files[0].text(name) != files[1].text(name)]
-    helpers = [name for name in changed if name in HELPERS]
-    return [name for name in changed if name not in helpers], helpers
-
-
-def refused_somewhere(subject, right, wrong, include, program, words):
-    """Whether the validator refuses what differs, on one of the targets; None if nothing differs."""
-    seen = False
-    for target in (TARGETS[0], TARGETS[1], TARGETS[2], TARGETS[-1]):
-        try:
-            names, helpers = differing(right, wrong, include, target)
-        except Refused:
-            return True
-        seen |= bool(names or helpers)
-        if (names or helpers) and refusal(program, words, wrong, include, target, names, helpers):
-            return True
-    return False if seen else None
-
-
-def fault_refused(fault, include, all_words, seeds):
-    """How it was found: the subject, or a reason to fail."""
-    file, old, new, subject = fault
+def fault(k):
+    """A fault in port/: what it makes of a file of dist/, or of one of two random programs, is refused."""
+    file, old, new, subject = FAULTS[k]
     with tempfile.TemporaryDirectory() as folder:
         port = port_with(folder, file, old, new)
-        for seed in seeds if subject == 'random' else [None]:
-            if subject == 'random':
+        for seed in (1, 2) if subject == 'random' else (None,):
+            if seed:
                 part = os.path.join(folder, str(seed))
-                words, where = write_program(part, seed), part
-                generate(os.path.join(ROOT, 'port'), words, f'{part}/right.c')
-                right = f'{part}/right.c'
+                words, include, right, wrong = write_program(part, seed), part, f'{part}/right.c', f'{part}/wrong.c'
+                generate(os.path.join(ROOT, 'port'), words, right)
             else:
-                given = next(words for words in all_words if words.path == subject)
-                words, where, right = [word for pair in given.given for word in pair], include, subject
-                part = folder
-            wrong = os.path.join(part, os.path.basename(right) if subject != 'random' else 'wrong.c')
+                words, include, right, wrong = given(subject), SHARED['include'], subject, os.path.join(folder, os.path.basename(subject))
             if generate(port, words, wrong):
-                return 'the generator stops'
-            said = refused_somewhere(subject, right, wrong, where, Program(Words('', words).one('--rlib')), words)
-            if said:
-                return 'refused'
-    return None
+                return {'the generator stops': 1}
+            if refused_somewhere(right, wrong, include, Program(Words('', words).one('--rlib')), words):
+                return {'refused': 1}
+    raise Failed(f'a fault that is not refused: {file}: {old}')
 
 
-def faults(include, all_words, seeds, chosen):
-    found = {}
-    for fault in chosen:
-        how = fault_refused(fault, include, all_words, seeds)
-        if how is None:
-            fail(f'a fault that is not refused: {fault[0]}: {fault[1]}')
-        found[how] = found.get(how, 0) + 1
-    print(f'validate-check: {len(chosen)} faults in port/: {", ".join(f"{n} {how}" for how, n in found.items())}')
+# ---- all of them
+
+KINDS = {'random': (random_program, 'random programs with wrong edits'), 'dist': (dist_edits, 'times ten wrong edits of dist/'),
+         'trick': (trick, 'tricks in dist/'), 'joined': (joined_edit, 'wrong edits of the joined file'), 'fault': (fault, 'faults in port/')}
+
+
+def tasks(quick, fresh):
+    """(kind, arguments). The gate has fixed ones; the long form has more, and random programs of a new seed."""
+    seeds, mutants = ([1, 2, 3], 8) if quick else ([932512, *range(1, 21), *range(fresh, fresh + 10)], 20)
+    return [('random', [seed, mutants]) for seed in seeds] + [('dist', [k]) for k in range(3 if quick else 30)] \
+        + [('trick', [k]) for k in range(len(TRICKS))] + [('joined', [k]) for k in range(len(JOINED))] \
+        + [('fault', [k]) for k in range(0, len(FAULTS), 6 if quick else 1)]
+
+
+def work(task):
+    kind, arguments = task
+    try:
+        return task, KINDS[kind][0](*arguments), None
+    except Failed as failed:
+        return task, None, str(failed)
+
+
+def digest():
+    """Of all that a result depends on."""
+    out = hashlib.sha256()
+    for folder in ('dist', 'include', 'port', 'validate', 'tests/validator'):
+        for place, _, files in sorted(os.walk(os.path.join(ROOT, folder))):
+            for name in sorted(files):
+                if name.endswith(('.c', '.h', '.py')):
+                    out.update(text_of(os.path.join(place, name)).encode())
+    return out.hexdigest()
+
+
+def resumed(path, fresh):
+    """(seed, finished tasks) of an earlier call with the same files, or of this one."""
+    if path and os.path.isfile(path):
+        lines = [json.loads(line) for line in text_of(path).splitlines()]
+        if lines and lines[0]['digest'] == digest():
+            return lines[0]['seed'], [tuple(line) for line in lines[1:]]
+    if path:
+        write(path, json.dumps({'digest': digest(), 'seed': fresh}) + '\n')
+    return fresh, []
+
+
+def report(kind, results):
+    counts = {}
+    for _, found, _ in results:
+        for name, n in (found or {}).items():
+            counts[name] = counts.get(name, 0) + n
+    print(f'validate-check: {len(results)} {KINDS[kind][1]}: {", ".join(f"{n} {name}" for name, n in counts.items() if n)}', flush=True)
 
 
 def main():
     sys.setrecursionlimit(100000)
-    argv = sys.argv[1:]
-    quick = '--quick' in argv
-    fresh = int(argv[argv.index('--seed') + 1]) if '--seed' in argv else int(time.time()) % 1000000
-    options, all_words = read_words(argv[argv.index('--include'):])
+    start, argv = time.time(), sys.argv[1:]
+    at = argv.index('--include')
+    quick, options = '--quick' in argv[:at], dict(zip(argv[:at], argv[1:at] + ['']))
+    fresh, done = resumed(options.get('--done'), int(options.get('--seed', int(time.time()) % 1000000)))
+    given_words, all_words = read_words(argv[at:])
+    SHARED.update(include=given_words['--include'], joined=given_words['--joined'], words=all_words, program=Program(all_words[0].one('--rlib')))
     if not quick:
-        print(f'validate-check: new random programs from seed {fresh} (--seed repeats them)', flush=True)
-    random_programs([1, 2, 3] if quick else [*range(1, 21), *range(fresh, fresh + 10)], 8 if quick else 40)  # the gate has fixed ones
-    dist_mutants(options['--include'], all_words, 24 if quick else 300, 1)
-    faults(options['--include'], all_words, range(1, 3), FAULTS[::6] if quick else FAULTS)
+        print(f'validate-check: new random programs from seed {fresh} (--seed repeats them); {len(done)} tasks were done before', flush=True)
+    finished = [task for task, *_ in done]
+    todo = [task for task in tasks(quick, fresh) if list(task) not in finished]
+    with multiprocessing.get_context('fork').Pool(int(options.get('--jobs', os.cpu_count() or 1)), maxtasksperchild=20) as pool:
+        for result in pool.imap_unordered(work, todo):
+            done.append(result)
+            if result[2]:
+                print(f'validate-check: FAILED: {result[2]}', flush=True)
+            elif '--done' in options:
+                with open(options['--done'], 'a', encoding='utf-8') as handle:
+                    handle.write(json.dumps(result) + '\n')
+    for kind in KINDS:
+        report(kind, [result for result in done if result[0][0] == kind])
+    failed = sum(bool(result[2]) for result in done)
+    print(f'validate-check: {len(done)} tasks, {failed} failed; {time.time() - start:.0f} s')
+    sys.exit(1 if failed else 0)
 
 
 if __name__ == '__main__':

@@ -36,6 +36,15 @@ FAULTS = [
     ('helpers.py', 'x |= x >> 32;', 'x |= x >> 31;', 'random'),
     ('helpers.py', '~(~a >> (n & 63u))', '(~a >> (n & 63u))', 'random'),
     ('helpers.py', 'return a >> 63 ? 0u - r : r;', 'return b >> 63 ? 0u - r : r;', 'random'),
+    # what one compiler, or C itself, takes in another way than it looks
+    ('c_types.py', "at[{t.count}]", "at[0{t.count}]", 'dist/kagutin_hours.c'),
+    ('c_types.py', "'size_t len'", "'uint32_t len'", 'dist/kagutin_hours.c'),
+    ('c_types.py', "+ self.c(item_of(t.target)) + ' *'", "+ self.c(item_of(t.target)) + ' *restrict'", 'dist/kagutin_hours.c'),
+    ('helpers.py', '__attribute__((noinline))', '__attribute__((const))', 'dist/kagutin.c'),
+    ('helpers.py', 'defined(__BYTE_ORDER__) && defined(__ORDER_LITTLE_ENDIAN__) && ', '', 'random'),
+    ('helpers.py', "#else\n#define UNROLL\n", "#elif defined(__clang__)\n#define UNROLL if (0)\n#else\n#define UNROLL\n", 'dist/kagutin_alarms.c'),
+    ('helpers.py', "static inline uint64_t load_{size}", "inline uint64_t load_{size}", 'random'),
+    ('c_types.py', "f'{c} {name}'", "f'{c} {name}' + (' : 32' if c == 'uint64_t' else '')", 'dist/kagutin_hours.c'),
     # names, types and reading
     ('reader.py', "signed=sign[:2] == ['Signed', 'Signed']", "signed=sign[:2] != ['Signed', 'Signed']", 'random'),
     ('reader.py', "arms.append((None, read_body(tokens)))", "arms.insert(0, (tuple(content[1][-1]), read_body(tokens)))", 'random'),

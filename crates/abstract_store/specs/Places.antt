@@ -11,7 +11,7 @@ use Rattle.model.specs.Layout.{maxStart}
 use Rattle.model.specs.Book as book
 use Rattle.model.specs.Book.{Landing, row, persisted, Entry, Commit, Task, idle, opened, Book}
 use Rattle.model.specs.History.{Change, begins, reserves, aborts, stores, commits, flushes, Service, Call, opening, confirm, change, service, flush, settle, trim, Event, call, crash, World, Formatting, afterFormat, ends, step, AllAllowed}
-use Rattle.abstract_store.specs.Store.{Store, newStore, firstGroup, nextGroup, nextOf, placesLeft, manyHomes, toSettle, nextStart, storeMustLog, commitMustLog, reply, replyOf, follow}
+use Rattle.abstract_store.specs.Store.{Store, newStore, firstGroup, nextGroup, nextOf, placesLeft, manyHomes, toSettle, nextStart, flushBytes, settleBytes, trimBytes, storeMustLog, commitMustLog, reply, replyOf, follow}
 
 -- What has become of a place that the log has used: an entry of a writer's open transaction, of a committed one, of an aborted one; or a flush
 -- passed it over.
@@ -152,10 +152,17 @@ pub record Drained (w : World) (s : Store) (first second third : List ℕ) : Typ
   pub empty : nextOf (drained w s first second third) ≡ 7 * drained w s first second third .start
   pub all : placesLeft (drained w s first second third) ≡ 7 * s .groups
 
+-- "trains long enough": each batch as long as the bytes that its call, by the abstract store, writes at that moment, and no longer
+pub record LongEnough (w : World) (s : Store) (first second third : List ℕ) : Type 0 where
+  pub forFlush : flushBytes s ≤ length first
+  pub forSettle : settleBytes (follow s w (call (flush first))) ≤ length second
+  pub forTrim :
+      trimBytes (follow (follow s w (call (flush first))) (step w (call (flush first))) (call (settle second))) ≤ length third
+
 abbrev pub Drains : World → Store → Type 0
 Drains w s =
-    AllIdle s → s .round ≡ 0 → (first second third : List ℕ) → 518 ≤ length first → 68 * s .homes + 2 ≤ length second → 68 ≤ length third →
-    firstGroup s + book.flush (s .book) .rows ≤ maxStart → Drained w s first second third
+    AllIdle s → s .round ≡ 0 → (first second third : List ℕ) → LongEnough w s first second third → firstGroup s + book.flush (s .book) .rows ≤ maxStart →
+    Drained w s first second third
 
 -- When a log does not drain: an open transaction holds it. What a writer has logged lies at or above every start that a trim can reach.
 abbrev pub HeldBack : Store → Type 0

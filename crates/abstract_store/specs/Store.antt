@@ -163,6 +163,16 @@ told (suc k) figure size = record { code = suc k; figure = 0; size = 0 }
 unfoldable pub askBatch : ℕ → List ℕ → ℕ
 askBatch size batch = ask (leb size (length batch)) 9 0
 
+-- the bytes of records that a flush, a settle and a trim write when they are done
+abbrev pub flushBytes : Store → ℕ
+flushBytes s = cond (eqb (s .book .filled) 0) 2 518
+
+abbrev pub settleBytes : Store → ℕ
+settleBytes s = 68 * manyHomes (s .homes) (toSettle s) + 2
+
+abbrev pub trimBytes : Store → ℕ
+trimBytes s = cond (eqb (nextStart s) (s .start)) 0 68
+
 unfoldable pub replyChange : Store → Change → Reply
 replyChange s (begins writer) = told (ask (ltb writer 8) 4 (ask (isIdle (s .book .tasks writer)) 6 0)) 0 0
 replyChange s (reserves writer places) =
@@ -190,21 +200,18 @@ replyChange s (commits writer batch) =
     (cond logs (nextOf s + 1) 0)
     size
 replyChange s (flushes batch) =
-    let size : ℕ = cond (eqb (s .book .filled) 0) 2 518 in
-    told (ask (mayFlush s) 18 (askBatch size batch)) 0 size
+    told (ask (mayFlush s) 18 (askBatch (flushBytes s) batch)) 0 (flushBytes s)
 
 unfoldable pub replyService : Store → Service → Reply
 replyService s (settles batch) =
-    let size : ℕ = 68 * manyHomes (s .homes) (toSettle s) + 2 in
-    told (ask (eqb (s .round) 0) 21 (askBatch size batch)) 0 size
+    told (ask (eqb (s .round) 0) 21 (askBatch (settleBytes s) batch)) 0 (settleBytes s)
 replyService s roundBegins = told (ask (eqb (s .round) 0) 21 0) 0 0
 replyService s (roundSteps homes batch) =
     let due : List ℕ = toStep s in
     let size : ℕ = 68 * length (take homes due) + cond (leb (length due) homes) 2 0 in
     told (ask (leb 1 (s .round) && leb 1 homes) 21 (askBatch size batch)) 0 size
 replyService s (trims batch) =
-    let size : ℕ = cond (eqb (nextStart s) (s .start)) 0 68 in
-    told (ask (leb (nextStart s) maxStart) 10 (askBatch size batch)) 0 size
+    told (ask (leb (nextStart s) maxStart) 10 (askBatch (trimBytes s) batch)) 0 (trimBytes s)
 replyService s (reads writer home block) =
     told
     (ask (eqb (length block) 64) 1 (ask (ltb writer 8) 4 (ask (ltb home (s .homes)) 5 (ask (mayRead (s .homes) (listOf s) writer home) 20 0))))

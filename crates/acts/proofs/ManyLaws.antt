@@ -6,7 +6,6 @@ use native.Mathlib.Omega.{arith}
 use lib.Dec.{eqb, leb}
 use lib.ListN.{length}
 use borrow.Author.Tests.{leb-true, eqb-true, eqb-false}
-use Rattle.model.specs.State.{freePlaces}
 use Rattle.model.specs.Effects.{Given, homes}
 use Rattle.model.specs.Questions.{areasRight, stateRight, newestRight, blockRight, stateInOrder, writerKnown, homeKnown, storeAllowed, writerOpen, storeLogs, commitLogs, room, batchFits, askBlock, askNewest, storeAnswer, commitAnswer}
 use Rattle.acts.specs.Many.{blocksLent, blocksRight, homesKnown, allOf, mayStoreAll, mayReadAll, roomForAll, askHomes, fetchAnswer, reviseAnswer, transactAnswer}
@@ -79,18 +78,18 @@ pub record TransactReady (g : Given) (size : ℕ) : Type 0 where
   pub lent : HomesReady g
   pub allowed : mayStoreAll g ≡ true
   pub idle : not (writerOpen g) ≡ true
-  pub room : blocksLent g ≤ freePlaces (g .state)
+  pub room : roomForAll g ≡ true
   pub batch : batchFits g size ≡ true
 
 pub transact-ready : (g : Given) (size : ℕ) → transactAnswer g size ≡ 0 → TransactReady g size
-unfolding transactAnswer roomForAll
+unfolding transactAnswer
 transact-ready g size e =
     let a = homes-passed g _ e in
     let b = ask-passed (mayStoreAll g) 18 _ (a .1) in
     let c = ask-passed (not (writerOpen g)) 5 _ (b .1) in
     let d = ask-passed (roomForAll g) 7 _ (c .1) in
     let f = ask-passed (batchFits g size) 8 0 (d .1) in
-    record { lent = a .0; allowed = b .0; idle = c .0; room = leb-true (blocksLent g) (freePlaces (g .state)) (d .0); batch = f .0 }
+    record { lent = a .0; allowed = b .0; idle = c .0; room = d .0; batch = f .0 }
 
 -- a store that is done was lent a block
 pub store-block : (g : Given) (size : ℕ) → storeAnswer g size ≡ 0 → length (g .block) ≡ 64

@@ -3,3 +3,5 @@ pub mod Units
 pub mod Together
 pub mod Verdicts
 pub mod ManyRefusals
+pub mod Replies
+pub mod Steps

@@ -18,7 +18,8 @@ use Rattle.call_ask.specs.Lent.{lentAll}
 use Rattle.call_store.specs.Logs.{MayLog, Fits, StoredOther}
 use Rattle.acts.specs.Many.{storedFirst}
 use Rattle.call_many.specs.Steps.{Several, BatchRoom, Stored, Reached, Under}
-use Rattle.call_many.proofs.StoredLaws.{may-log, stored, stored-reached, stored-first}
+use Rattle.acts.proofs.StoredLaws.{stored}
+use Rattle.call_many.proofs.StoredLaws.{may-log, stored-reached, stored-first}
 
 -- ---- a part of the lent blocks
 

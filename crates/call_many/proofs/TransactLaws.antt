@@ -1,4 +1,4 @@
--- Transact: its size, its answer and how it ends. Assumes nothing.
+-- Transact: its answer and how it ends. Assumes nothing.
 use mathlib.Core.Path.{_≡_, refl, sym, ap, _∙_, subst}
 use mathlib.Core.Bool.{Bool, true, false, cond, not}
 use mathlib.Core.List.{List, [], _++_}
@@ -28,7 +28,9 @@ use Rattle.call_commit.proofs.CommitLaws.{effect-held, kept-list}
 use Rattle.acts.specs.Many.{blocksLent, blocksRight, homesKnown, lentOn, andThen, storedFirst, transactEffect, askHomes, allOf, mayStoreAll, roomForAll, transactAnswer, transactCall}
 use Rattle.call_many.specs.Steps.{Several, BatchRoom, Moved, Stored, Reached}
 use Rattle.call_many_fetch.proofs.AllowedLaws.{read-list-same, storeTest}
-use Rattle.call_many.proofs.StoredLaws.{sizes-more, may-log, moves, moved-more, bytes-more, stored}
+use Rattle.acts.proofs.StoredLaws.{sizes-more}
+use Rattle.acts.proofs.TransactedLaws.{closed, last-store, effect-is, size-is}
+use Rattle.call_many.proofs.StoredLaws.{may-log, bytes-more}
 use Rattle.call_many_fetch.proofs.QuestionLaws.{HomesLent, homes-refuse, homes-pass, homes-first, homes-lent}
 
 -- ---- what the questions let through
@@ -70,36 +72,18 @@ module _ (g : Given) (n : ℕ) (c : Several (g .log) (g .state) (g .block) (g .w
   abbrev final : Given
   final = lentOn g e 0 []
 
-  held-effect : commitEffect final ≡ commitHeld final r p
-  unfolding lentOn
-  held-effect = effect-held final r (stateOf (e .state)) refl refl (h .holding)
-
   abbrev word : ℕ
   word = closingWord (r .home) (p - firstFor r p) (linkFrom p (stateOf (e .state))) (countFor r + 1)
 
   abbrev lo : Logged
   lo = logged (e .state) (e .log) word (heldOf (e .state) (g .writer))
 
-  closed : Moved (stateOf (g .state)) n (stateOf (lo .state)) (e .records ++ lo .records)
-  closed = subst (λ k. Moved (stateOf (g .state)) k (stateOf (lo .state)) (e .records ++ lo .records)) l (moved-more g n c e j h (omega arith) word (heldOf (e .state) (g .writer)))
-
-  few : stateOf (lo .state) .filled ≤ 6
-  few = ⊎-elim (λ m. omega (arith, h .filled)) (λ m. omega arith) (moves g n c e j h (omega arith) word (heldOf (e .state) (g .writer)) .moved)
-
-  size-held : sizeOf (andThen g e (commitHeld final r p)) ≡ cond (leb 7 (stateOf (g .state) .filled + n)) 516 0
-  unfolding sizeOf andThen commitHeld logClosing lentOn batchBytes
-  size-held =
-      ⊎-elim
-      (λ m. rw (m .2, lt-leb 7 (stateOf (g .state) .filled + n) (omega (arith, m .1, few))))
-      (λ m. rw (le-leb 7 (stateOf (g .state) .filled + n) (omega (arith, m .1))) (m .2))
-      closed
-
   size-few : (m k : ℕ) → m ≡ length (batchBytes (e .records)) → k ≡ length (batchBytes (loggedClosing (e .state) (e .log) (stateOf (e .state)) r (g .writer) .records))
       → m + k ≤ 516
   unfolding loggedClosing batchBytes
   size-few m k em ek =
       let z : m + k ≡ length (batchBytes (e .records ++ lo .records)) = rw (em, ek) (sizes-more (e .records) (lo .records)) in
-      ⊎-elim (λ y. omega (arith, z, ap (λ q. length (batchBytes q)) (y .2))) (λ y. omega (arith, z, y .2)) closed
+      ⊎-elim (λ y. omega (arith, z, ap (λ q. length (batchBytes q)) (y .2))) (λ y. omega (arith, z, y .2)) (closed g n c e j h l)
 
   homes-same : length (e .area) ≡ length (g .area) → Usable (g .log) (g .area) (g .state) → stateOf (e .state) .homes ≡ homesIn (length (e .area))
   homes-same area u = h .homes ∙ u .order .homes-same ∙ ap homesIn (sym area)
@@ -128,26 +112,11 @@ module _ (g : Given) (n : ℕ) (c : Several (g .log) (g .state) (g .block) (g .w
 
 -- the whole call
 module _ (g : Given) (c : Several (g .log) (g .state) (g .block) (g .writer) (g .home) (length (g .block) / 64)) where
-  last-store : (n : ℕ) → n ≡ length (g .block) / 64
-      → Several (g .log) (g .state) (g .block) (g .writer) (g .home) n → (j : ℕ) × ((suc j ≡ n) × Stored g j (storedFirst g n))
-  last-store zero e k = absurd (omega (arith, k .least))
-  last-store (suc j) e k = (j, (refl, stored g (suc j) k j (omega arith)))
-
   abbrev n : ℕ
   n = length (g .block) / 64
 
   abbrev e : Effect
   e = storedFirst g (length (g .block) / 64)
-
-  pub effect-is : transactEffect g
-      ≡ andThen g (storedFirst g (length (g .block) / 64))
-      (commitHeld (lentOn g (storedFirst g (length (g .block) / 64)) 0 []) (writerOf (storedFirst g (length (g .block) / 64) .state) (g .writer))
-      (nextPosition (stateOf (storedFirst g (length (g .block) / 64) .state))))
-  unfolding transactEffect blocksLent
-  effect-is = let k = last-store n refl c in ap (andThen g e) (held-effect g n c e (k .0) (k .1 .1) (k .1 .0))
-
-  pub size-is : sizeOf (transactEffect g) ≡ cond (leb 7 (stateOf (g .state) .filled + length (g .block) / 64)) 516 0
-  size-is = let k = last-store n refl c in ap sizeOf effect-is ∙ size-held g n c e (k .0) (k .1 .1) (k .1 .0)
 
   -- what the commit asks for
   pub commit-requires : (m : ℕ) (s l b p : List ℕ) (st : State) (r : Writer) → BatchRoom (g .state) (g .batch) (length (g .block) / 64)
@@ -155,7 +124,7 @@ module _ (g : Given) (c : Several (g .log) (g .state) (g .block) (g .writer) (g 
       → Reached m s l b (g .batch) (storedFirst g (length (g .block) / 64)) → st ≡ stateOf s → r ≡ writerOf s (g .writer)
       → MayLog l s b st (g .writer) × Fits st r (nextPosition st) × (length p ≡ 8 * st .homes) × (length (g .area) ≡ 64 * st .homes)
   commit-requires m s l b p st r room len area q es er =
-      let k = last-store n refl c in
+      let k = last-store g c n refl c in
       let h = k .1 .1 in
       let room′ : BatchRoom (g .state) b n =
       λ x. omega (arith, room x, ap length (q .batch), length-puts (g .batch) 0 (batchBytes (e .records))) in
@@ -166,7 +135,7 @@ module _ (g : Given) (c : Several (g .log) (g .state) (g .block) (g .writer) (g 
       → Reached m s₁ l₁ b₁ (g .batch) (storedFirst g (length (g .block) / 64)) → st ≡ stateOf s₁ → r ≡ writerOf s₁ (g .writer)
       → Committed k s′ p′ l′ b′ s₁ (g .newest) l₁ b₁ (g .area) st r (g .writer) → m + k ≤ 516
   sizes-few m k s₁ l₁ b₁ s′ p′ l′ b′ st r t es er d =
-      let i = last-store n refl c in
+      let i = last-store g c n refl c in
       let d′ = rw (es, er, t .state, t .log) at d in
       size-few g n c e (i .0) (i .1 .1) (i .1 .0) m k (t .size) (d′ .size)
 
@@ -175,10 +144,10 @@ module _ (g : Given) (c : Several (g .log) (g .state) (g .block) (g .writer) (g 
       → q ≡ nextPosition st → Committed k s′ p′ l′ b′ s₁ (g .newest) l₁ b₁ (g .area) st r (g .writer) → (c′ ≡ 0) × (figure ≡ q + 1) × (size ≡ m + k)
       → leavesAll c′ figure size l′ (g .area) s′ p′ (g .block) b′ ≡ outcome g answer (transactEffect g)
   ends-done u answer m k q c′ figure size s₁ l₁ b₁ s′ p′ l′ b′ st r z t es er eq d y =
-      let i = last-store n refl c in
+      let i = last-store g c n refl c in
       let d′ = rw (es, er, t .state, t .log) at d in
       let f : figure ≡ nextPosition (stateOf (e .state)) + 1 = y .1 ∙ rw (eq, es, t .state) in
-      rw effect-is (done-with g n c e (i .0) (i .1 .1) (i .1 .0) u answer m k c′ figure size b₁ s′ p′ l′ b′ z (t .size) (t .batch) d′ (y .0, f, y .2))
+      rw (effect-is g c) (done-with g n c e (i .0) (i .1 .1) (i .1 .0) u answer m k c′ figure size b₁ s′ p′ l′ b′ z (t .size) (t .batch) d′ (y .0, f, y .2))
 
 -- ---- its answer
 

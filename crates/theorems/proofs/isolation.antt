@@ -7,9 +7,15 @@ pub mod AlikeReplies
 pub mod AlikeFollows
 -- Two histories whose calls are alike, from stores that are alike but for bytes in homes that a writer may not read: every call is answered the same, and the writer's reads give the same blocks.
 pub mod AlikeHistories
+-- Calls on several homes that are alike, from stores that are alike but for bytes in hidden homes: they answer the same, and leave stores alike.
+pub mod AlikeActs
 -- Rights keep what a writer may not read from it: from the answers of the abstract store, demand 2 and the invariant, by which the blocks of all commits have 64 bytes.
 pub mod IsolationHolds
+-- The same in histories with calls on several homes, and from the format on.
+pub mod IsolatedActsHold
 -- What rights hide from one writer and show to another, by computation.
 pub mod HiddenHolds
 -- The two histories of specs/Hidden meet the premises of non-interference, which therefore says something of them.
 pub mod HiddenThere
+-- The two histories of specs/HiddenTogether are told so, and meet the premises of non-interference from the format on.
+pub mod TogetherHidden

@@ -6,10 +6,10 @@ use mathlib.Core.List.{List, [], _∷_, _++_}
 use lib.Dec.{eqb}
 use Rattle.model.specs.Bytes.{zeros, bytes, same}
 use Rattle.model.specs.Effects.{Given}
-use Rattle.model.specs.Calls.{Outcome}
-use Rattle.model.specs.History.{Service, settles, roundBegins, roundSteps, trims, reads, Call, opening, confirm, change, service, begin, store, commit, read, call, World, emptyStore, ends, step}
+use Rattle.model.specs.History.{Call, opening, begin, store, commit, read, call, World, emptyStore, ends, step}
 use Rattle.model.specs.examples.Trials.{room, lane, fill, goes, answers}
 use Rattle.model.specs.examples.Witnesses.{plain}
+use Rattle.theorems.specs.IsolatedActs.{blockOfRead}
 
 -- one range of homes, and three empty ones
 unfoldable pub rangeOf : ℕ → ℕ → List ℕ
@@ -60,19 +60,6 @@ answersListed =
     plain (0 ∷ 20 ∷ 0 ∷ 0 ∷ 0 ∷ []) ++ ((0 ∷ 33 ∷ 0 ∷ plain (0 ∷ 19 ∷ 0 ∷ [])) ++ (0 ∷ 34 ∷ 0 ∷ plain (0 ∷ 20 ∷ 0 ∷ [])))
 
 -- the blocks that a writer's reads leave
-unfoldable pub blockOfService : ℕ → Service → Outcome → List ℕ
-blockOfService writer (settles batch) o = []
-blockOfService writer roundBegins o = []
-blockOfService writer (roundSteps homes batch) o = []
-blockOfService writer (trims batch) o = []
-blockOfService writer (reads v home block) o = cond (eqb v writer) (o .block) []
-
-unfoldable pub blockOfRead : ℕ → Call → Outcome → List ℕ
-blockOfRead writer (opening state newest batch) o = []
-blockOfRead writer confirm o = []
-blockOfRead writer (change c) o = []
-blockOfRead writer (service c) o = blockOfService writer c o
-
 unfoldable pub blocksRead : ℕ → World → List Call → List ℕ
 blocksRead writer w [] = []
 blocksRead writer w (c ∷ cs) = blockOfRead writer c (ends w c) ++ blocksRead writer (step w (call c)) cs

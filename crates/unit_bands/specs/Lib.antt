@@ -3,3 +3,4 @@ pub mod Refusals
 pub mod Claims
 pub mod Histories
 pub mod Example
+pub mod Answers

@@ -3,3 +3,4 @@ pub mod UnitLaws
 pub mod ShownLaws
 pub mod MomentLaws
 pub mod MomentShown
+pub mod RepliesHold

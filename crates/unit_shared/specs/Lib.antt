@@ -2,3 +2,4 @@ pub mod Unit
 pub mod Refusals
 pub mod Shown
 pub mod Moments
+pub mod Replies

@@ -1,6 +1,8 @@
 /* docs/ALARMS.md: a panel that never says "no alarm" while one may be open. */
 #include "tries.h"
 
+#include <inttypes.h>
+
 #include "kagutin_units.h"
 
 static struct kagutin store;
@@ -13,7 +15,7 @@ static void panel_text(const char *text)
 
 static void panel_alarm(uint64_t identity, uint64_t alarm_class, uint64_t second)
 {
-    snprintf(panel, sizeof panel, "%u %u %u", (unsigned)identity, (unsigned)alarm_class, (unsigned)second);
+    snprintf(panel, sizeof panel, "%" PRIu64 " %" PRIu64 " %" PRIu64, identity, alarm_class, second);
 }
 
 #include "alarms_panel.snippet"

@@ -7,8 +7,8 @@ enum { WORD = 8, LOG_WORDS = KGT_LOG_SIZE(TRY_GROUPS) / WORD, HOME_WORDS = KGT_H
 
 static uint64_t seen[LOG_WORDS + HOME_WORDS], arrived[LOG_WORDS + HOME_WORDS];
 
-#define LOG_ADDRESS ((uint8_t *)seen)
-#define HOMES_ADDRESS ((uint8_t *)(seen + LOG_WORDS))
+#define LOG_ADDRESS seen
+#define HOMES_ADDRESS (seen + LOG_WORDS)
 
 static int flush_cache(void)
 {

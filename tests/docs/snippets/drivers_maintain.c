@@ -15,10 +15,10 @@ static void wait_a_little(void)
 static void commit_some(void)
 {
     uint8_t block[KAGUTIN_BLOCK_SIZE];
-    uint64_t home;
+    unsigned home;
 
     for (home = 16; home < 28; home++) {
-        try_block(block, (unsigned)home);
+        try_block(block, home);
         try_check(kgt_begin(&store, 1).code == KAGUTIN_DONE && kgt_store(&store, 1, home, block).code == KAGUTIN_DONE
                       && kgt_commit(&store, 1).code == KAGUTIN_DONE,
                   "a commit");

@@ -7,7 +7,7 @@ static bool run_failed;
 static bool run(const uint8_t *records, uint64_t size)
 {
     try_check(!run_failed, "nothing is run after a run that failed");
-    run_failed = kgt_run(&runner, records, (size_t)size) != 0;
+    run_failed = kgt_run(&runner, records, size & SIZE_MAX) != 0;
     return !run_failed;
 }
 

@@ -1,6 +1,8 @@
 /* docs/WEAR.md: starts, stops and services that are in the book, or not told. */
 #include "tries.h"
 
+#include <inttypes.h>
+
 #include "kagutin_units.h"
 
 enum { PUMP = 4, INTERVAL = 500 * 3600 };
@@ -15,7 +17,7 @@ static void panel_text(const char *text)
 
 static void panel_services(uint64_t pump, uint64_t due, uint64_t left)
 {
-    snprintf(panel, sizeof panel, "%u %u %u", (unsigned)pump, (unsigned)due, (unsigned)left);
+    snprintf(panel, sizeof panel, "%" PRIu64 " %" PRIu64 " %" PRIu64, pump, due, left);
 }
 
 #include "wear_calls.snippet"

@@ -17,7 +17,7 @@ use Rattle.model_laws.proofs.trace.TraceLaws.{All}
 use Rattle.theorems.proofs.invariant.TouchLaws.{CommitFits, homeAt-entries}
 use Rattle.theorems.proofs.invariant.BookReplay.{length-writeCommits}
 
-each-append : {A : Type 0} {R : A → A → Type 0} {xs ys us vs : List A} → Each R xs ys → Each R us vs → Each R (xs ++ us) (ys ++ vs)
+pub each-append : {A : Type 0} {R : A → A → Type 0} {xs ys us vs : List A} → Each R xs ys → Each R us vs → Each R (xs ++ us) (ys ++ vs)
 each-append both k = k
 each-append (more r es) k = more r (each-append es k)
 

@@ -4,10 +4,12 @@ use mathlib.Core.Path.{_≡_, refl, sym, ap}
 use mathlib.Core.Bool.{Bool, true, false, cond, false≢true}
 use lib.Dec.{eqb, leb}
 use lib.ListN.{length, getD}
-use Rattle.model.specs.Book.{Book}
+use mathlib.Core.List.{List, [], _∷_}
+use mathlib.Core.Option.{none, some}
+use Rattle.model.specs.Book.{Entry, Commit, Task, idle, opened, Book}
 use Rattle.model.specs.History.{Change, begins, reserves, aborts, stores, commits, flushes, Service, settles, trims, reads, roundBegins, roundSteps, Call, opening, confirm, change, service, isOpening}
 use Rattle.abstract_store.specs.Store.{Store, nextGroup, nextStart, toStep, storeMustLog, lastAfter, fencedAfter, setFor, promisesAfter, numbered, withRound, roundOver, trimmedTo, afterService, afterDone, Reply, afterReply}
-use Rattle.theorems.specs.Isolation.{StoreAlike, CallAlike, equal, stored}
+use Rattle.theorems.specs.Isolation.{Each, both, more, EntryAlike, CommitAlike, TaskAlike, idles, empties, holds, StoreAlike, CallAlike, equal, stored}
 use Rattle.theorems.proofs.isolation.AlikeBook.{BookAlike, feed-alike, flush-alike}
 use Rattle.theorems.proofs.isolation.AlikeReplies.{first-alike, group-alike, start-alike, step-alike, store-logs-alike}
 
@@ -177,3 +179,38 @@ module _ (hidden : ℕ → Bool) where
     pub reply-keeps-alike : {c e : Call} (r : Reply) → isOpening c ≡ false → CallAlike hidden c e → StoreAlike hidden (afterReply s c r) (afterReply t e r)
     unfolding afterReply
     reply-keeps-alike r n k = either (eqb (r .code) 0) (eqb (r .code) 0) refl (done-alike (r .figure) n k) a
+
+-- a store is like itself
+module _ (hidden : ℕ → Bool) where
+  entries-self : (es : List Entry) → Each (EntryAlike hidden) es es
+  entries-self [] = both
+  entries-self (e ∷ es) = more (record { home = refl; landing = refl; block = λ h. refl }) (entries-self es)
+
+  commits-self : (cs : List Commit) → Each (CommitAlike hidden) cs cs
+  commits-self [] = both
+  commits-self (c ∷ cs) = more (record { entries = entries-self (c .entries); ticket = refl; owed = refl }) (commits-self cs)
+
+  task-self : (t : Task) → TaskAlike hidden t t
+  task-self idle = idles
+  task-self (opened es none) = empties (entries-self es)
+  task-self (opened es (some h)) = holds (entries-self es) (record { home = refl; block = λ h. refl })
+
+  pub store-self : (s : Store) → StoreAlike hidden s s
+  store-self s =
+      record {
+        groups = refl;
+        homes = refl;
+        head = refl;
+        start = refl;
+        settled = refl;
+        fenced = refl;
+        durable = refl;
+        last = refl;
+        promises = λ w. refl;
+        round = refl;
+        cursor = refl;
+        rows = refl;
+        filled = refl;
+        commits = commits-self (s .book .commits);
+        tasks = λ w. task-self (s .book .tasks w);
+      }

@@ -1,82 +1,32 @@
--- Two histories whose calls are alike, from stores that are alike but for bytes in homes that a writer may not read: every call is answered the same,
--- and the writer's reads give the same blocks. What it takes of each history is a record: every call answers what the abstract store says, reads give what
--- the book says, and the blocks of all commits have 64 bytes. Assumes nothing.
-use Prim.Native.Nat.{ℕ, zero, suc, _+_, _-_}
+-- Two histories whose calls are alike, from stores that are alike but for bytes in hidden homes: every call is answered the same, the stores stay alike, and
+-- a writer's reads of homes that are not hidden give the same blocks. Assumes nothing.
+use Prim.Native.Nat.{ℕ, zero, suc, _+_, _-_, _<_}
 use mathlib.Core.Path.{_≡_, refl, sym, ap, _∙_, subst}
 use mathlib.Core.Bool.{Bool, true, false, cond, not}
 use mathlib.Core.List.{List, [], _∷_, _++_}
 use native.Mathlib.Omega.{arith}
 use lib.Dec.{eqb, ltb}
 use lib.ListN.{length}
-use borrow.Author.Tests.{ne-eqb}
 use Rattle.model.specs.Effects.{Given, Effect, readEffect}
 use Rattle.model.specs.Rights.{mayRead}
 use Rattle.model.specs.Questions.{ask, readAnswer}
-use Rattle.model.specs.Calls.{Outcome, refused, done, outcome, readCall}
-use Rattle.model.specs.Book.{Commit, Book, readBy}
-use Rattle.model.specs.Book as book
-use Rattle.model.specs.History.{Call, read, Event, call, crash, World, lent, ends, serviceEnds, isOpening, afterDone, afterRefused, afterCall, afterCrash, rowFates, feed, step, after, AllAllowed}
-use Rattle.model.specs.DemandTwo.{LiveThroughout}
-use Rattle.abstract_store.specs.Store.{Store, listOf, Reply, told, replyService, reply, replyOf, afterReply, follow, AnswersThroughout}
-use Rattle.abstract_store.specs.Store as store
-use Rattle.theorems.specs.Isolation.{Each, both, more, StoreAlike, CallAlike, equal, stored, followed, Denied, DeniedThroughout, ToldSame, ToldSameThroughout}
-use Rattle.model.specs.History.{calls}
+use Rattle.model.specs.Calls.{refused, done, outcome, readCall}
+use Rattle.model.specs.Book.{Book, readBy}
+use Rattle.model.specs.History.{Call, read, Event, call, World, lent, ends, serviceEnds, isOpening, afterDone, afterRefused, afterCall, step, after, AllAllowed, calls}
+use Rattle.abstract_store.specs.Store.{Store, listOf, Reply, told, replyService, reply, replyOf, afterReply, follow}
+use Rattle.theorems.specs.Isolation.{Each, both, more, StoreAlike, CallAlike, equal, stored, Denied, DeniedThroughout, ToldSame, ToldSameThroughout}
 use Rattle.model_laws.proofs.state.QuestionLaws.{ask-passed}
 use Rattle.model_laws.proofs.trace.TraceLaws.{All}
-use Rattle.theorems.proofs.steps.Footprint.{steady}
 use Rattle.theorems.proofs.invariant.TouchLaws.{CommitFits}
+use Rattle.theorems.proofs.store.Reached.{Reached, goes-on, call-answers, live-then, same-book, same-homes}
+use Rattle.theorems.proofs.store.Moments.{moment, fits-then}
 use Rattle.theorems.proofs.isolation.AlikeBook.{reads-alike}
-use Rattle.theorems.proofs.isolation.AlikeReplies.{reply-alike, readable-shown}
+use Rattle.theorems.proofs.isolation.AlikeReplies.{ListShown, reply-alike, list-shows, not-hidden}
 use Rattle.theorems.proofs.isolation.AlikeFollows.{book-alike, reply-keeps-alike}
-
--- ---- the abstract store has the world's book
-
-pub record Beside (D : ℕ) (w : World) (s : Store) : Type 0 where
-  pub world : w .homes ≡ D
-  pub homes : s .homes ≡ D
-  pub book : w .book ≡ s .book
-
-call-beside : (D : ℕ) (w : World) (s : Store) (c : Call) (o : Outcome) (k : ℕ) → o .code ≡ k → Beside D w s
-    → Beside D (afterCall w c o k) (cond (eqb k 0) (store.afterDone s c (o .figure)) s)
-unfolding afterCall afterDone afterRefused
-call-beside D w s c o zero e a =
-    let q = steady s c (o .figure) in
-    record { world = a .world; homes = q .homes ∙ a .homes; book = ap (λ (b : Book). feed b c (o .figure)) (a .book) ∙ sym (q .book) }
-call-beside D w s c o (suc k) e a =
-    rw (ne-eqb (suc k) 0 (λ x. omega arith)) (record { world = a .world; homes = a .homes; book = a .book })
-
-step-beside : (D : ℕ) (w : World) (s : Store) (e : Event) → Beside D w s → Beside D (step w e) (follow s w e)
-unfolding step follow
-step-beside D w s (call c) a = unfold afterReply replyOf in call-beside D w s c (ends w c) (ends w c .code) refl a
-step-beside D w s (crash passed chosen) a =
-    unfold afterCrash store.afterCrash in
-    record { world = a .world; homes = a .homes; book = ap (λ (b : Book). book.crash b (rowFates w passed chosen)) (a .book) }
-
--- ---- what it takes of a history
-
-abbrev pub FitThroughout : ℕ → World → List Event → Type 0
-FitThroughout D w [] = w .ready ≡ true → All (CommitFits D) (w .book .commits)
-FitThroughout D w (e ∷ es) = (w .ready ≡ true → All (CommitFits D) (w .book .commits)) × FitThroughout D (step w e) es
-
-pub record Runs (D : ℕ) (w : World) (s : Store) (es : List Event) : Type 0 where
-  pub allowed : AllAllowed w es
-  pub answers : AnswersThroughout w s es
-  pub live : LiveThroughout w es
-  pub fits : FitThroughout D w es
-  pub beside : Beside D w s
-
-runs-on : {D : ℕ} {w : World} {s : Store} {e : Event} {es : List Event} → Runs D w s (e ∷ es) → Runs D (step w e) (follow s w e) es
-runs-on {D} {w} {s} {e} r =
-    record { allowed = r .allowed .1; answers = r .answers .2; live = r .live .2; fits = r .fits .1; beside = step-beside D w s e (r .beside) }
-
-pub runs-after : {D : ℕ} (w : World) (s : Store) (es fs : List Event) → Runs D w s (es ++ fs) → Runs D (after w es) (followed s w es) fs
-unfolding after followed
-runs-after w s [] fs r = r
-runs-after w s (e ∷ es) fs r = runs-after (step w e) (follow s w e) es fs (runs-on r)
 
 -- ---- one call
 
-refused-block : (g : Given) (a : ℕ) (e : Effect) (k : ℕ) → outcome g a e .code ≡ suc k → outcome g a e .block ≡ g .block
+pub refused-block : (g : Given) (a : ℕ) (e : Effect) (k : ℕ) → outcome g a e .code ≡ suc k → outcome g a e .block ≡ g .block
 unfolding outcome done refused
 refused-block g zero e k h = absurd (omega arith)
 refused-block g (suc a) e k h = refl
@@ -110,30 +60,32 @@ ready-on w c h = go (ends w c .code)
     go zero = unfold afterCall afterDone in refl
     go (suc k) = unfold afterCall afterRefused in h
 
-module _ (hidden : ℕ → Bool) (writer : ℕ) where
-  alike-read : {c e : Call} (home : ℕ) (block : List ℕ) → CallAlike hidden c e → c ≡ read writer home block → e ≡ read writer home block
-  alike-read home block equal x = x
-  alike-read home block (stored h l) x = absurd (let z : _≡_ {A = ℕ} 0 1 = cc in omega arith)
+alike-read : (hidden : ℕ → Bool) {c e : Call} (x home : ℕ) (block : List ℕ) → CallAlike hidden c e → c ≡ read x home block → e ≡ read x home block
+alike-read hidden x home block equal q = q
+alike-read hidden x home block (stored h l) q = absurd (let z : _≡_ {A = ℕ} 0 1 = cc in omega arith)
 
-  module _ (D : ℕ) {w v : World} {s t : Store} {c e : Call} {es fs : List Event} (r : Runs D w s (call c ∷ es)) (q : Runs D v t (call e ∷ fs))
-      (w-ready : w .ready ≡ true) (v-ready : v .ready ≡ true) (a : StoreAlike hidden s t) (d : Denied writer hidden s) (k : CallAlike hidden c e) where
-    left-fits : All (CommitFits D) (s .book .commits)
-    left-fits = subst (λ (b : Book). All (CommitFits D) (b .commits)) (r .beside .book) (r .fits .0 w-ready)
+module _ (hidden : ℕ → Bool) (shows : ListShown hidden) {w v : World} {s t : Store} (r : Reached w s) (q : Reached v t) (w-ready : w .ready ≡ true)
+    (v-ready : v .ready ≡ true) (a : StoreAlike hidden s t) where
+  pub left-fits : All (CommitFits (s .homes)) (s .book .commits)
+  left-fits = fits-then w s (moment w s r w-ready)
 
-    right-fits : All (CommitFits D) (t .book .commits)
-    right-fits = subst (λ (b : Book). All (CommitFits D) (b .commits)) (q .beside .book) (q .fits .0 v-ready)
+  pub right-fits : All (CommitFits (s .homes)) (t .book .commits)
+  right-fits = subst (λ (n : ℕ). All (CommitFits n) (t .book .commits)) (sym (a .homes)) (fits-then v t (moment v t q v-ready))
 
-    fits-in : (cs : List Commit) → All (CommitFits D) cs → All (CommitFits (s .homes)) cs
-    fits-in cs f = subst (λ (n : ℕ). All (CommitFits n) cs) (sym (r .beside .homes)) f
+  -- a home that is not hidden reads the same
+  pub shown-same : (x home : ℕ) → hidden home ≡ false → readBy (w .homes) (w .book) x home ≡ readBy (v .homes) (v .book) x home
+  shown-same x home h =
+      ap (λ (n : ℕ). readBy n (w .book) x home) (sym (same-homes w s r)) ∙ ap (λ (b : Book). readBy (s .homes) b x home) (sym (same-book w s r))
+      ∙ reads-alike hidden home h (s .homes) x (book-alike hidden a) left-fits right-fits
+      ∙ ap (λ (b : Book). readBy (s .homes) b x home) (same-book v t q)
+      ∙ ap (λ (n : ℕ). readBy n (v .book) x home) (a .homes ∙ same-homes v t q)
 
+  module _ {c e : Call} (ok : isOpening c ≡ not (w .ready)) (ok′ : isOpening e ≡ not (v .ready)) (k : CallAlike hidden c e) where
     not-opening : isOpening c ≡ false
-    not-opening = r .allowed .0 ∙ ap not w-ready
+    not-opening = ok ∙ ap not w-ready
 
-    same-reply : replyOf (ends w c) ≡ replyOf (ends v e)
-    same-reply =
-        r .answers .1
-        ∙ reply-alike hidden a writer d (fits-in (s .book .commits) left-fits) (fits-in (t .book .commits) right-fits) not-opening k
-        ∙ sym (q .answers .1)
+    pub same-reply : replyOf (ends w c) ≡ replyOf (ends v e)
+    same-reply = call-answers w s c r ok ∙ reply-alike hidden shows a left-fits right-fits not-opening k ∙ sym (call-answers v t e q ok′)
 
     pub next-alike : StoreAlike hidden (follow s w (call c)) (follow t v (call e))
     unfolding follow
@@ -144,23 +96,17 @@ module _ (hidden : ℕ → Bool) (writer : ℕ) where
     same-code : ends w c .code ≡ ends v e .code
     same-code = unfold replyOf in ap (λ (x : Reply). x .code) same-reply
 
-    module _ (home : ℕ) (block : List ℕ) (x : c ≡ read writer home block) where
+    -- done, both give what the book says of a home that is not hidden; refused, both leave the block as it was lent
+    module _ (writer : ℕ) (d : Denied writer hidden s) (home : ℕ) (block : List ℕ) (x : c ≡ read writer home block) where
       abbrev y : e ≡ read writer home block
-      y = alike-read home block k x
+      y = alike-read hidden writer home block k x
 
       told-zero : ends w c .code ≡ 0 → reply s (read writer home block) .code ≡ 0
       told-zero h =
           subst (λ (z : Call). reply s z .code ≡ 0) x
-          (sym (ap (λ (p : Reply). p .code) (r .answers .1)) ∙ (unfold replyOf in h))
+          (sym (ap (λ (p : Reply). p .code) (call-answers w s c r ok)) ∙ (unfold replyOf in h))
 
-      shown-same : hidden home ≡ false → readBy (w .homes) (w .book) writer home ≡ readBy (v .homes) (v .book) writer home
-      shown-same h =
-          ap (λ (n : ℕ). readBy n (w .book) writer home) (r .beside .world) ∙ ap (λ (b : Book). readBy D b writer home) (r .beside .book)
-          ∙ reads-alike hidden home h D writer (book-alike hidden a) left-fits right-fits ∙ ap (λ (b : Book). readBy D b writer home) (sym (q .beside .book))
-          ∙ ap (λ (n : ℕ). readBy n (v .book) writer home) (sym (q .beside .world))
-
-      -- done, both give what the book says of a home that is not hidden; refused, both leave the block as it was lent
-      same-block : ends w c .block ≡ ends v e .block
+      pub same-block : ends w c .block ≡ ends v e .block
       same-block = go (ends w c .code) refl
         where
           lent-w : (n : ℕ) → ends w c .code ≡ n → ends w (read writer home block) .code ≡ n
@@ -175,26 +121,23 @@ module _ (hidden : ℕ → Bool) (writer : ℕ) where
           go : (n : ℕ) → ends w c .code ≡ n → ends w c .block ≡ ends v e .block
           go zero h =
               by-read
-              (r .live .0 w-ready .readable writer home block (lent-w 0 h)
-              ∙ shown-same
-              (readable-shown hidden a writer d (fits-in (s .book .commits) left-fits) (fits-in (t .book .commits) right-fits) home
-              (read-allowed s writer home block (told-zero h)))
-              ∙ sym (q .live .0 v-ready .readable writer home block (lent-v 0 h)))
+              (live-then w s r w-ready .readable writer home block (lent-w 0 h)
+              ∙ shown-same writer home (not-hidden hidden writer s home d (read-allowed s writer home block (told-zero h)))
+              ∙ sym (live-then v t q v-ready .readable writer home block (lent-v 0 h)))
           go (suc n) h =
               by-read (read-refused w writer home n block (lent-w (suc n) h) ∙ sym (read-refused v writer home n block (lent-v (suc n) h)))
 
-    pub told-same : ToldSame writer w v c e
-    told-same = (same-reply, same-block)
+-- ---- every call
 
-  -- ---- every call
-
-  pub told-throughout : (D : ℕ) (cs ds : List Call) (w v : World) (s t : Store) → Runs D w s (calls cs) → Runs D v t (calls ds) → w .ready ≡ true
-      → v .ready ≡ true → StoreAlike hidden s t → Each (CallAlike hidden) cs ds → DeniedThroughout writer hidden s w (calls cs)
-      → ToldSameThroughout writer w v cs ds
-  unfolding calls
-  told-throughout D [] [] w v s t r q w-ready v-ready a both d = tt
-  told-throughout D (c ∷ cs) (e ∷ ds) w v s t r q w-ready v-ready a (more k ks) d = (
-    told-same D r q w-ready v-ready a (d .0) k,
-    told-throughout D cs ds (step w (call c)) (step v (call e)) (follow s w (call c)) (follow t v (call e)) (runs-on r) (runs-on q) (ready-on w c w-ready)
-        (ready-on v e v-ready) (next-alike D r q w-ready v-ready a (d .0) k) ks (d .1),
-  )
+pub told-throughout : (hidden : ℕ → Bool) (writer : ℕ) (cs ds : List Call) (w v : World) (s t : Store) → Reached w s → Reached v t → AllAllowed w (calls cs)
+    → AllAllowed v (calls ds) → w .ready ≡ true → v .ready ≡ true → StoreAlike hidden s t → Each (CallAlike hidden) cs ds
+    → DeniedThroughout writer hidden s w (calls cs) → ToldSameThroughout writer w v cs ds
+unfolding calls
+told-throughout hidden writer [] [] w v s t r q ok ok′ w-ready v-ready a both d = tt
+told-throughout hidden writer (c ∷ cs) (e ∷ ds) w v s t r q ok ok′ w-ready v-ready a (more k ks) d =
+    let shows : ListShown hidden = list-shows hidden writer s (d .0) in (
+      (same-reply hidden shows r q w-ready v-ready a (ok .0) (ok′ .0) k, same-block hidden shows r q w-ready v-ready a (ok .0) (ok′ .0) k writer (d .0)),
+      told-throughout hidden writer cs ds (step w (call c)) (step v (call e)) (follow s w (call c)) (follow t v (call e)) (goes-on w s (call c) r (ok .0))
+          (goes-on v t (call e) q (ok′ .0)) (ok .1) (ok′ .1) (ready-on w c w-ready) (ready-on v e v-ready)
+          (next-alike hidden shows r q w-ready v-ready a (ok .0) (ok′ .0) k) ks (d .1),
+    )

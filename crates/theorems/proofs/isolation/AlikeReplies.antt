@@ -37,10 +37,14 @@ unfolding promisedTo
 promised-same f g zero e = refl
 promised-same f g (suc n) e = rw (e n, promised-same f g n e)
 
+-- the list's own homes are not hidden
+abbrev pub ListShown : (ℕ → Bool) → Type 0
+ListShown hidden = (h : ℕ) → h < 4 → hidden (8 + h) ≡ false
+
 module _ (hidden : ℕ → Bool) where
   -- ---- writers
 
-  idle-alike : {t u : Task} → TaskAlike hidden t u → isIdle t ≡ isIdle u
+  pub idle-alike : {t u : Task} → TaskAlike hidden t u → isIdle t ≡ isIdle u
   unfolding isIdle
   idle-alike idles = refl
   idle-alike (empties es) = refl
@@ -134,7 +138,7 @@ module _ (hidden : ℕ → Bool) where
     promised-alike : promisedTo (s .promises) 8 ≡ promisedTo (t .promises) 8
     promised-alike = promised-same (s .promises) (t .promises) 8 (a .promises)
 
-    free-alike : freeLeft s ≡ freeLeft t
+    pub free-alike : freeLeft s ≡ freeLeft t
     unfolding freeLeft
     free-alike = rw (places-alike, promised-alike)
 
@@ -183,12 +187,15 @@ module _ (hidden : ℕ → Bool) where
   unfolding mayRead ofList
   list-shown D list w h l = rw (le-leb 8 (8 + h) (omega arith), lt-ltb (8 + h) 12 (omega arith))
 
-  not-hidden : (w : ℕ) (s : Store) (h : ℕ) → Denied w hidden s → mayRead (s .homes) (listOf s) w h ≡ true → hidden h ≡ false
+  pub not-hidden : (w : ℕ) (s : Store) (h : ℕ) → Denied w hidden s → mayRead (s .homes) (listOf s) w h ≡ true → hidden h ≡ false
   not-hidden w s h d m = go (hidden h) refl
     where
       go : (e : Bool) → hidden h ≡ e → hidden h ≡ false
       go true e = absurd (false≢true (sym (d h e) ∙ m))
       go false e = e
+
+  pub list-shows : (w : ℕ) (s : Store) → Denied w hidden s → ListShown hidden
+  list-shows w s d h l = not-hidden w s (8 + h) d (list-shown (s .homes) (listOf s) w h l)
 
   -- where D is too small for a list, it is not looked at
   read-no-list : (D : ℕ) (l m : List ℕ) (w h : ℕ) → leb (listHome + 4) D ≡ false → mayRead D l w h ≡ mayRead D m w h
@@ -205,7 +212,7 @@ module _ (hidden : ℕ → Bool) where
       let e : 64 * listHome + 64 * h ≡ 64 * (8 + h) = omega arith in
       part-within A (64 * listHome) 256 (64 * h) 64 (omega arith) ∙ ap (λ (n : ℕ). part A n 64) e
 
-  module _ {s t : Store} (a : StoreAlike hidden s t) (w : ℕ) (d : Denied w hidden s) (f : All (CommitFits (s .homes)) (s .book .commits))
+  module _ (shows : ListShown hidden) {s t : Store} (a : StoreAlike hidden s t) (f : All (CommitFits (s .homes)) (s .book .commits))
       (g : All (CommitFits (s .homes)) (t .book .commits)) where
     list-alike : listHome + 4 ≤ s .homes → listOf s ≡ listOf t
     unfolding listOf
@@ -220,7 +227,7 @@ module _ (hidden : ℕ → Bool) where
             ≡ homeAt (part (homesAfter (s .homes) (t .book .commits)) (64 * listHome) 256) h
         each h k =
             list-home (homesAfter (s .homes) (s .book .commits)) h k
-            ∙ homes-alike hidden (8 + h) (not-hidden w s (8 + h) d (list-shown (s .homes) (listOf s) w h k)) (s .homes) (a .commits) f g
+            ∙ homes-alike hidden (8 + h) (shows h k) (s .homes) (a .commits) f g
             ∙ sym (list-home (homesAfter (s .homes) (t .book .commits)) h k)
 
     pub may-read-alike : (v h : ℕ) → mayRead (s .homes) (listOf s) v h ≡ mayRead (t .homes) (listOf t) v h
@@ -230,16 +237,12 @@ module _ (hidden : ℕ → Bool) where
         go true e = ap (λ (l : List ℕ). mayRead (s .homes) l v h) (list-alike (leb-true (listHome + 4) (s .homes) e))
         go false e = read-no-list (s .homes) (listOf s) (listOf t) v h e
 
-    may-store-alike : (v h : ℕ) → mayStore (s .homes) (listOf s) v h ≡ mayStore (t .homes) (listOf t) v h
+    pub may-store-alike : (v h : ℕ) → mayStore (s .homes) (listOf s) v h ≡ mayStore (t .homes) (listOf t) v h
     may-store-alike v h = go (leb (listHome + 4) (s .homes)) refl ∙ ap (λ (n : ℕ). mayStore n (listOf t) v h) (a .homes)
       where
         go : (b : Bool) → leb (listHome + 4) (s .homes) ≡ b → mayStore (s .homes) (listOf s) v h ≡ mayStore (s .homes) (listOf t) v h
         go true e = ap (λ (l : List ℕ). mayStore (s .homes) l v h) (list-alike (leb-true (listHome + 4) (s .homes) e))
         go false e = store-no-list (s .homes) (listOf s) (listOf t) v h e
-
-    -- a home that the writer may read is not hidden
-    pub readable-shown : (h : ℕ) → mayRead (s .homes) (listOf s) w h ≡ true → hidden h ≡ false
-    readable-shown h m = not-hidden w s h d m
 
     -- ---- replies
 

@@ -5,7 +5,8 @@ use Rattle.model.specs.State.{listedOf, setListed, listSign, setListSign, fresh
 use Rattle.model.specs.Newest.{carryListed}
 use Rattle.model.specs.Rights.{forHome, shownAt, listBy, storeList, readList, ofList, isList, inRange, inRanges, mayStore, mayRead, sameListed, listMoved, signFor, signIf, keepList, signedList, storeRight, readRight}
 use Rattle.model.specs.Questions.{storeAllowed, readAllowed}
-use Rattle.theorems.specs.Hidden.{rangeOf, firstWriters, nextWriters, firstOpening, listing, listedBefore, bothAtWork, listedWorld, answersWith, answersListed, blockOfService, blockOfRead, blocksRead, blocksWith, hiddenFromOne, shownToTwo}
+use Rattle.theorems.specs.IsolatedActs.{blockOfService, blockOfRead}
+use Rattle.theorems.specs.Hidden.{rangeOf, firstWriters, nextWriters, firstOpening, listing, listedBefore, bothAtWork, listedWorld, answersWith, answersListed, blocksRead, blocksWith, hiddenFromOne, shownToTwo}
 use Rattle.model.proofs.examples.Computing.{all-definitions}
 
 pub hidden-from-one : hiddenFromOne ≡ true

@@ -11,18 +11,16 @@ use Rattle.model.specs.Rights.{forHome, shownAt, listBy, storeList, readList, o
 use Rattle.model.specs.Questions.{storeAllowed, readAllowed}
 use Rattle.model.specs.Calls.{formatCall}
 use Rattle.model.specs.examples.Trials.{fill}
-use mathlib.Core.Option.{none, some}
-use Rattle.model.specs.Book.{Entry, Commit, Task, idle, opened}
 use Rattle.model.specs.History.{Call, Event, call, World, Formatting, afterFormat, emptyStore, unopened, ends, isOpening, step, after, AllAllowed}
 use Rattle.abstract_store.specs.Store.{Store, newStore, firstGroup, numbered, withRound, listOf, lastAfter, fencedAfter, setFor, promisesAfter, storeMustLog, Reply, replyOf, afterService, afterReply, follow}
 use Rattle.abstract_store.specs.Store as abstract-store
-use Rattle.theorems.specs.Isolation.{Each, both, more, EntryAlike, CommitAlike, TaskAlike, idles, empties, holds, StoreAlike, CallAlike, equal, stored, followed, Denied, DeniedThroughout, ToldSameThroughout}
+use Rattle.theorems.specs.Isolation.{Each, both, more, StoreAlike, CallAlike, equal, stored, followed, Denied, DeniedThroughout, ToldSameThroughout}
 use Rattle.model.specs.History.{calls}
 use Rattle.theorems.specs.Hidden.{rangeOf, firstWriters, nextWriters, unformatted, firstOpening, listing, listedBefore, bothAtWork, fourth}
 use Rattle.model_laws.proofs.bytes.ByteLaws.{length-zeros}
 use Rattle.theorems.proofs.steps.FormatRuns.{after-format}
 use Rattle.model.proofs.examples.Computing.{all-definitions}
-use Rattle.theorems.proofs.isolation.AlikeFollows.{reply-keeps-alike}
+use Rattle.theorems.proofs.isolation.AlikeFollows.{reply-keeps-alike, store-self}
 use Rattle.theorems.proofs.isolation.AlikeHistories.{ready-on}
 use Rattle.theorems.proofs.isolation.IsolationHolds.{isolation}
 
@@ -62,7 +60,7 @@ alike-along hidden (c ∷ cs) (e ∷ ds) w v s t n q (more k ks) a =
     (reply-keeps-alike hidden a (replyOf (ends w c)) (m .0) k))
 
 -- what writer 1 may not read is home 4
-neverFour : Store → World → List Event → Bool
+unfoldable pub neverFour : Store → World → List Event → Bool
 neverFour s w [] = not (mayRead (s .homes) (listOf s) 1 4)
 neverFour s w (e ∷ es) = not (mayRead (s .homes) (listOf s) 1 4) && neverFour (follow s w e) (step w e) es
 
@@ -74,47 +72,12 @@ denied-four : (s : Store) → mayRead (s .homes) (listOf s) 1 4 ≡ false → De
 unfolding fourth
 denied-four s m home e = rw (eqb-true home 4 e) m
 
-denied-always : (es : List Event) (s : Store) (w : World) → neverFour s w es ≡ true → DeniedThroughout 1 fourth s w es
+pub denied-always : (es : List Event) (s : Store) (w : World) → neverFour s w es ≡ true → DeniedThroughout 1 fourth s w es
 unfolding neverFour
 denied-always [] s w m = denied-four s (not-true (mayRead (s .homes) (listOf s) 1 4) m)
 denied-always (e ∷ es) s w m =
     let k = none-first (mayRead (s .homes) (listOf s) 1 4) (neverFour (follow s w e) (step w e) es) m in
     (denied-four s (k .0), denied-always es (follow s w e) (step w e) (k .1))
-
--- a store is like itself
-module _ (hidden : ℕ → Bool) where
-  entries-self : (es : List Entry) → Each (EntryAlike hidden) es es
-  entries-self [] = both
-  entries-self (e ∷ es) = more (record { home = refl; landing = refl; block = λ h. refl }) (entries-self es)
-
-  commits-self : (cs : List Commit) → Each (CommitAlike hidden) cs cs
-  commits-self [] = both
-  commits-self (c ∷ cs) = more (record { entries = entries-self (c .entries); ticket = refl; owed = refl }) (commits-self cs)
-
-  task-self : (t : Task) → TaskAlike hidden t t
-  task-self idle = idles
-  task-self (opened es none) = empties (entries-self es)
-  task-self (opened es (some h)) = holds (entries-self es) (record { home = refl; block = λ h. refl })
-
-  store-self : (s : Store) → StoreAlike hidden s s
-  store-self s =
-      record {
-        groups = refl;
-        homes = refl;
-        head = refl;
-        start = refl;
-        settled = refl;
-        fenced = refl;
-        durable = refl;
-        last = refl;
-        promises = λ w. refl;
-        round = refl;
-        cursor = refl;
-        rows = refl;
-        filled = refl;
-        commits = commits-self (s .book .commits);
-        tasks = λ w. task-self (s .book .tasks w);
-      }
 
 -- ---- computed
 

@@ -80,7 +80,7 @@ module _ (g : Given) (block batch : List ℕ) where
 
 -- ---- a read of one of the homes
 
-list-same : (w : World) (b b′ t t′ : List ℕ) (v v′ h h′ : ℕ) → readList (lent w b t v h) ≡ readList (lent w b′ t′ v′ h′)
+pub list-same : (w : World) (b b′ t t′ : List ℕ) (v v′ h h′ : ℕ) → readList (lent w b t v h) ≡ readList (lent w b′ t′ v′ h′)
 unfolding readList lent
 list-same w b b′ t t′ v v′ h h′ =
     list-by (lent w b t v h) (lent w b′ t′ v′ h′) (λ i. keptFor (w .newest) (listHome + i)) (λ i. keptFor (w .newest) (listHome + i)) 4

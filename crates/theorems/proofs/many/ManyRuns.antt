@@ -2,132 +2,46 @@
 use Prim.Native.Nat.{ℕ, zero, suc, _+_, _*_, _/_, _≤_, _<_}
 use mathlib.Core.Path.{_≡_, refl, sym, ap, _∙_, subst}
 use mathlib.Core.Bool.{true, false, cond, not, _&&_}
-use mathlib.Core.List.{List, [], _∷_, _++_, append-assoc}
+use mathlib.Core.List.{List, [], _∷_}
 use native.Mathlib.Omega.{arith}
 use lib.Dec.{eqb}
 use lib.ListN.{length, take}
-use borrow.Author.Tests.{eq-eqb, le-leb, ltb-true}
+use borrow.Author.Tests.{le-leb, ltb-true}
 use Rattle.model.specs.Bytes.{part}
 use Rattle.model.specs.Batch.{batchBytes, readBatch}
-use Rattle.model.specs.State.{freePlaces, listSign}
+use Rattle.model.specs.State.{listSign, freePlaces}
 use Rattle.model.specs.Effects.{Given, Effect, homes, newState, tagsOf, liveBase, logHeld, logClosing, storeFirst, storeAgain, storeOther, keptCommit, commitHeld, abortEffect, beginEffect, reserveEffect, storeEffect, commitEffect}
 use Rattle.model.specs.Rights.{mayStore, storeRight, readList}
-use Rattle.model.specs.Questions.{ask, areasRight, stateRight, stateInOrder, writerKnown, writerOpen, mayPromise, askState, beginAnswer, reserveAnswer, storeAnswer, commitAnswer}
+use Rattle.model.specs.Questions.{ask, areasRight, stateRight, stateInOrder, writerKnown, writerOpen, mayPromise, askState, beginAnswer, reserveAnswer, storeAnswer, commitAnswer, batchFits}
 use Rattle.model.specs.Calls.{Outcome, done, outcome, sizeOf, beginCall, reserveCall, storeCall, commitCall}
-use Rattle.acts.specs.Many.{blocksLent, lentOn, andThen, storedFirst, transactEffect, mayStoreAll, transactAnswer, transactCall}
+use Rattle.acts.specs.Many.{blocksLent, lentOn, andThen, storedFirst, transactEffect, mayStoreAll, roomForAll, transactAnswer, transactCall}
 use Rattle.model.specs.Book.{Book}
-use Rattle.model.specs.Book as book
-use Rattle.model.specs.History.{Call, begin, reserve, store, commit, Event, call, World, lent, ends, changeEnds, feed, feedChange, isOpening, isConfirm, step, after as played, Allowed, AllAllowed}
-use Rattle.abstract_store.specs.Store.{Store, listOf, afterReply, replyOf, follow}
+use Rattle.model.specs.History.{Call, begin, reserve, store, commit, call, World, lent, ends, changeEnds, feed, feedChange, isOpening, isConfirm, step, after as played, Allowed, AllAllowed}
+use Rattle.abstract_store.specs.Store.{Store, listOf, follow}
 use Rattle.abstract_store.specs.Store as abstract
 use Rattle.acts.specs.Units.{transacts, transactEnds, feedStores, feedTransact, leftBy, act, roomy, storesFrom, chain}
 use Rattle.model_laws.proofs.bytes.ByteLaws.{length-part}
 use Rattle.model_laws.proofs.state.BatchLaws.{AllFormed, formed-append}
 use Rattle.model_laws.proofs.state.QuestionLaws.{ask-yes}
-use Rattle.acts.proofs.ManyLaws.{each-of, TransactReady, transact-ready, store-fits, commit-fits}
-use Rattle.theorems.proofs.steps.DoneLaws.{outcome-code, outcome-done, records-read, after, step-done}
-use Rattle.theorems.proofs.steps.FormedLaws.{store-formed, commit-formed}
+use Rattle.acts.proofs.ManyLaws.{each-of, TransactReady, transact-ready}
+use Rattle.theorems.proofs.steps.DoneLaws.{outcome-code, outcome-done, records-read, step-done}
 use Rattle.theorems.proofs.store.Reached.{Reached, after-append, allowed-append, goes-on, call-code, kept-then, same-book, same-homes}
 use Rattle.theorems.proofs.many.StoreMany.{Along, store-replies, commit-replies, store-along, reserved-room, begin-along}
 use Rattle.theorems.proofs.rights.ListRights.{lent-homes, rights-same}
 use Rattle.model_laws.proofs.state.LoggingLaws.{fits}
+use Rattle.theorems.proofs.many.ChainCalls.{stepped, follow-done, one-played, left-done, done-size, store-steps, store-formed-on, commit-steps, commit-formed-on, store-sized, commit-sized, sizes, sizes-append, one-size, size-then}
 
--- the world with what an effect leaves, and a book
-abbrev stepped : World → Effect → Book → World
-stepped w e b =
-    record {
-      homes = w .homes;
-      state = e .state;
-      newest = e .newest;
-      log = e .log;
-      area = e .area;
-      memory = w .memory;
-      pending = w .pending ++ e .records;
-      passed = w .passed;
-      ready = true;
-      book = b;
-    }
-
-follow-done : (w : World) (s : Store) (c : Call) → ends w c .code ≡ 0 → follow s w (call c) ≡ abstract.afterDone s c (ends w c .figure)
-unfolding follow afterReply replyOf
-follow-done w s c e = rw (eq-eqb (ends w c .code) 0 e)
-
-one-played : (w : World) (e : Event) → played w (e ∷ []) ≡ step w e
-unfolding played
-one-played w e = refl
-
--- what a store and a commit do does not hang on the batch that they are lent
-store-aside : (w : World) (g : Given) (e : Effect) (b : Book) (home : ℕ) (block batch : List ℕ)
-    → storeEffect (lent (stepped w e b) block batch (g .writer) home) ≡ storeEffect (lentOn g e home block)
-unfolding storeEffect storeFirst storeAgain storeOther newState logHeld lent lentOn
-store-aside w g e b home block batch = refl
-
-commit-aside : (w : World) (g : Given) (e : Effect) (b : Book) (batch : List ℕ)
-    → commitEffect (lent (stepped w e b) [] batch (g .writer) 0) ≡ commitEffect (lentOn g e 0 [])
-unfolding commitEffect commitHeld abortEffect newState logClosing keptCommit tagsOf liveBase lent lentOn
-commit-aside w g e b batch = refl
-
-left-done : (w : World) (g : Given) (e : Effect) (b : ℕ → Book) → w .ready ≡ true → readBatch (take (done g e .size) (done g e .batch)) ≡ e .records
-    → leftBy w (done g e) (cond (eqb (done g e .code) 0) (b (done g e .figure)) (w .book)) ≡ stepped w e (b (e .figure))
-unfolding leftBy done
-left-done w g e b ready same = rw (same, ready)
-
--- ---- one call more
-
-module _ (w : World) (g : Given) (e : Effect) (b : Book) where
-  store-steps : (home : ℕ) (block : List ℕ) → ends (stepped w e b) (store (g .writer) home block roomy) .code ≡ 0
-      → step (stepped w e b) (call (store (g .writer) home block roomy))
-      ≡ stepped w (andThen g e (storeEffect (lentOn g e home block))) (book.store b (g .writer) home block)
-  unfolding ends changeEnds storeCall
-  store-steps home block z =
-      let u : World = stepped w e b in
-      let c : Call = store (g .writer) home block roomy in
-      let x : Given = lent u block roomy (g .writer) home in
-      let a : ℕ = storeAnswer x (sizeOf (storeEffect x)) in
-      let k : a ≡ 0 = sym (outcome-code x a (storeEffect x)) ∙ z in
-      step-done u c x a (storeEffect x) refl k (store-formed x (sizeOf (storeEffect x)) k) (fits x (sizeOf (storeEffect x)) (store-fits x (sizeOf (storeEffect x)) k))
-      ∙ ap (after u c) (store-aside w g e b home block roomy) ∙ same (storeEffect (lentOn g e home block))
-    where
-      same : (f : Effect) → after (stepped w e b) (store (g .writer) home block roomy) f ≡ stepped w (andThen g e f) (book.store b (g .writer) home block)
-      same f = unfold andThen feed feedChange isConfirm in rw (append-assoc (w .pending) (e .records) (f .records))
-
-  store-formed-on : (home : ℕ) (block : List ℕ) → ends (stepped w e b) (store (g .writer) home block roomy) .code ≡ 0
-      → AllFormed (storeEffect (lentOn g e home block) .records)
-  unfolding ends changeEnds storeCall
-  store-formed-on home block z =
-      let x : Given = lent (stepped w e b) block roomy (g .writer) home in
-      let a : ℕ = storeAnswer x (sizeOf (storeEffect x)) in
-      subst (λ (f : Effect). AllFormed (f .records)) (store-aside w g e b home block roomy)
-      (store-formed x (sizeOf (storeEffect x)) (sym (outcome-code x a (storeEffect x)) ∙ z))
-
-  commit-steps : ends (stepped w e b) (commit (g .writer) roomy) .code ≡ 0
-      → step (stepped w e b) (call (commit (g .writer) roomy))
-      ≡ stepped w (andThen g e (commitEffect (lentOn g e 0 []))) (book.commit b (g .writer) (commitEffect (lentOn g e 0 []) .figure))
-  unfolding ends changeEnds commitCall
-  commit-steps z =
-      let u : World = stepped w e b in
-      let c : Call = commit (g .writer) roomy in
-      let x : Given = lent u [] roomy (g .writer) 0 in
-      let a : ℕ = commitAnswer x (sizeOf (commitEffect x)) in
-      let k : a ≡ 0 = sym (outcome-code x a (commitEffect x)) ∙ z in
-      step-done u c x a (commitEffect x) refl k (commit-formed x (sizeOf (commitEffect x)) k) (fits x (sizeOf (commitEffect x)) (commit-fits x (sizeOf (commitEffect x)) k))
-      ∙ ap (after u c) (commit-aside w g e b roomy) ∙ same (commitEffect (lentOn g e 0 []))
-    where
-      same : (f : Effect) → after (stepped w e b) (commit (g .writer) roomy) f ≡ stepped w (andThen g e f) (book.commit b (g .writer) (f .figure))
-      same f = unfold andThen feed feedChange isConfirm in rw (append-assoc (w .pending) (e .records) (f .records))
-
-  commit-formed-on : ends (stepped w e b) (commit (g .writer) roomy) .code ≡ 0 → AllFormed (commitEffect (lentOn g e 0 []) .records)
-  unfolding ends changeEnds commitCall
-  commit-formed-on z =
-      let x : Given = lent (stepped w e b) [] roomy (g .writer) 0 in
-      let a : ℕ = commitAnswer x (sizeOf (commitEffect x)) in
-      subst (λ (f : Effect). AllFormed (f .records)) (commit-aside w g e b roomy)
-      (commit-formed x (sizeOf (commitEffect x)) (sym (outcome-code x a (commitEffect x)) ∙ z))
+-- a transact is told as its calls are: its bytes are theirs together, its figure is its commit's
+pub record ChainTold (w : World) (v h : ℕ) (blocks : List ℕ) (e : Effect) : Type 0 where
+  pub stores : AllAllowed w (storesFrom v h blocks (length blocks / 64))
+  pub ready : played w (storesFrom v h blocks (length blocks / 64)) .ready ≡ true
+  pub size : sizeOf e ≡ sizes w (storesFrom v h blocks (length blocks / 64)) + ends (played w (storesFrom v h blocks (length blocks / 64))) (commit v roomy) .size
+  pub figure : e .figure ≡ ends (played w (storesFrom v h blocks (length blocks / 64))) (commit v roomy) .figure
 
 -- ---- the chain
 
-module _ (w : World) (s : Store) (r : Reached w s) (ready : w .ready ≡ true) (v h : ℕ) (blocks batch : List ℕ)
-    (t : TransactReady (lent w blocks batch v h) (sizeOf (transactEffect (lent w blocks batch v h)))) where
+module _ (w : World) (s : Store) (r : Reached w s) (ready : w .ready ≡ true) (v h : ℕ) (blocks batch : List ℕ) (size : ℕ)
+    (t : TransactReady (lent w blocks batch v h) size) where
   abbrev g : Given
   g = lent w blocks batch v h
 
@@ -162,8 +76,8 @@ module _ (w : World) (s : Store) (r : Reached w s) (ready : w .ready ≡ true) (
   many = t .lent .some
 
   may-promise : mayPromise (lent w [] [] v 0 .state) n ≡ true
-  unfolding mayPromise blocksLent lent
-  may-promise = rw (le-leb 1 n many, le-leb n (freePlaces (w .state)) (t .room))
+  unfolding mayPromise roomForAll blocksLent lent
+  may-promise = rw (le-leb 1 n many) (t .room)
 
   begin-done : ends w (begin v) .code ≡ 0
   unfolding ends changeEnds beginCall beginAnswer
@@ -187,6 +101,7 @@ module _ (w : World) (s : Store) (r : Reached w s) (ready : w .ready ≡ true) (
     along : Along s store v h blocks n k
     formed : AllFormed (storedFirst g k .records)
     allowed : AllAllowed w (storesFrom v h blocks k)
+    sums : sizeOf (storedFirst g k) ≡ sizes w (storesFrom v h blocks k)
     world : played w (storesFrom v h blocks k) ≡ stepped w (storedFirst g k) (feedStores (w .book) v h blocks k)
 
   begin-fits : sizeOf (beginEffect (lent w [] [] v 0)) ≤ length (lent w [] [] v 0 .batch)
@@ -201,6 +116,14 @@ module _ (w : World) (s : Store) (r : Reached w s) (ready : w .ready ≡ true) (
       (unfold beginEffect newState in tt) begin-fits
       ∙ (unfold beginEffect newState lent feed feedChange isConfirm in refl)
 
+  begin-sums : sizeOf (storedFirst g 0) ≡ sizes w (storesFrom v h blocks 0)
+  unfolding storesFrom storedFirst ends changeEnds beginCall
+  begin-sums =
+      let x : Given = lent w [] [] v 0 in
+      let a : ℕ = beginAnswer x in
+      let same : sizeOf (beginEffect g) ≡ sizeOf (beginEffect x) = (unfold sizeOf beginEffect newState in refl) in
+      same ∙ sym (done-size x a (beginEffect x) (sym (outcome-code x a (beginEffect x)) ∙ begin-done) .0) ∙ sym (one-size w (begin v))
+
   at-begin : At 0
   at-begin =
       let c : Call = begin v in
@@ -214,6 +137,7 @@ module _ (w : World) (s : Store) (r : Reached w s) (ready : w .ready ≡ true) (
         along = begin-along s v h blocks n (ends w c .figure) room;
         formed = (unfold storedFirst beginEffect newState in tt);
         allowed = (unfold storesFrom in (ok, tt));
+        sums = begin-sums;
         world = (unfold storesFrom played in begin-steps);
       }
 
@@ -265,6 +189,15 @@ module _ (w : World) (s : Store) (r : Reached w s) (ready : w .ready ≡ true) (
       after-append (storesFrom v h blocks k) (call c ∷ []) w ∙ ap (λ (x : World). played x (call c ∷ [])) same ∙ one-played u (call c) ∙ steps-on done,
     )
 
+    sums-on : ends u c .code ≡ 0 → played w (storesFrom v h blocks k) ≡ u → sizeOf e ≡ sizes w (storesFrom v h blocks k)
+        → sizeOf (storedFirst g (suc k)) ≡ sizes w (storesFrom v h blocks (suc k))
+    unfolding lent storedFirst storesFrom
+    sums-on done same sums =
+        size-then g e (storeEffect (lentOn g e (h + k) (part blocks (64 * k) 64)))
+        ∙ ap (λ (x : ℕ). x + sizeOf (storeEffect (lentOn g e (h + k) (part blocks (64 * k) 64)))) sums
+        ∙ ap (λ (x : ℕ). sizes w (storesFrom v h blocks k) + x) (sym (store-sized w g e b (h + k) (part blocks (64 * k) 64) done) ∙ sym (one-size u c))
+        ∙ ap (λ (x : World). sizes w (storesFrom v h blocks k) + sizes x (call c ∷ [])) (sym same) ∙ sym (sizes-append (storesFrom v h blocks k) (call c ∷ []) w)
+
     at-store : k < n → At k → At (suc k)
     at-store l a =
         let done : ends u c .code ≡ 0 = call-code u (a .store) c (a .reached) allowed-on
@@ -278,6 +211,7 @@ module _ (w : World) (s : Store) (r : Reached w s) (ready : w .ready ≡ true) (
           along = store-along s (a .store) v h blocks n k (ends u c .figure) (a .along) l;
           formed = formed-on done (a .formed);
           allowed = p .0;
+          sums = sums-on done (a .world) (a .sums);
           world = p .1;
         }
 
@@ -323,22 +257,42 @@ module _ (w : World) (s : Store) (r : Reached w s) (ready : w .ready ≡ true) (
             ∙ commit-on done;
       }
 
-  all-of : Whole
-  all-of = let a = at-each n (omega arith) in whole-of a (go n refl many a)
+  commit-done : At n → ends (u n) (commit v roomy) .code ≡ 0
+  commit-done a = go n refl many
     where
-      go : (j : ℕ) → n ≡ j → 1 ≤ j → At n → ends (u n) (commit v roomy) .code ≡ 0
-      go zero q l a = absurd (omega arith)
-      go (suc m) q l a = last-of m q a
+      go : (j : ℕ) → n ≡ j → 1 ≤ j → ends (u n) (commit v roomy) .code ≡ 0
+      go zero q l = absurd (omega arith)
+      go (suc m) q l = last-of m q a
+
+  all-of : Whole
+  all-of = let a = at-each n (omega arith) in whole-of a (commit-done a)
+
+  told-of : At n → ChainTold w v h blocks (transactEffect g)
+  unfolding transactEffect blocksLent lent
+  told-of a =
+      let c = commit-sized w g (e n) (b n) (commit-done a) in
+      let last : Effect = commitEffect (lentOn g (e n) 0 []) in
+      record {
+        stores = a .allowed;
+        ready = ap (λ (x : World). x .ready) (a .world);
+        size =
+            size-then g (e n) last ∙ ap (λ (x : ℕ). x + sizeOf last) (a .sums)
+            ∙ ap (λ (x : ℕ). sizes w (storesFrom v h blocks n) + x) (sym (c .0) ∙ ap (λ (x : World). ends x (commit v roomy) .size) (sym (a .world)));
+        figure = (unfold andThen in sym (c .1) ∙ ap (λ (x : World). ends x (commit v roomy) .figure) (sym (a .world)));
+      }
+
+  pub chain-told : ChainTold w v h blocks (transactEffect g)
+  chain-told = told-of (at-each n (omega arith))
 
   -- the world that the transact itself leaves
-  left-so : transactEnds w v h blocks batch .code ≡ 0
+  left-so : batchFits g (sizeOf (transactEffect g)) ≡ true → transactEnds w v h blocks batch .code ≡ 0
       → act w (transacts v h blocks batch) ≡ stepped w (transactEffect g) (feedTransact (w .book) v h blocks (transactEffect g .figure))
   unfolding act transactEnds transactCall
-  left-so z =
+  left-so room z =
       let e : Effect = transactEffect g in
       let a : ℕ = transactAnswer g (sizeOf e) in
       let q : outcome g a e ≡ done g e = outcome-done g a e (sym (outcome-code g a e) ∙ z) in
-      let same : readBatch (take (done g e .size) (done g e .batch)) ≡ e .records = records-read g e (all-of .formed) (fits g (sizeOf e) (t .batch)) in
+      let same : readBatch (take (done g e .size) (done g e .batch)) ≡ e .records = records-read g e (all-of .formed) (fits g (sizeOf e) room) in
       ap (λ (o : Outcome). leftBy w o (cond (eqb (o .code) 0) (feedTransact (w .book) v h blocks (o .figure)) (w .book))) q
       ∙ left-done w g e (feedTransact (w .book) v h blocks) ready same
 
@@ -349,5 +303,5 @@ transact-chain w s r ready v h blocks batch z =
     let g : Given = lent w blocks batch v h in
     let t : TransactReady g (sizeOf (transactEffect g)) = transact-ready g (sizeOf (transactEffect g))
     (sym (outcome-code g (transactAnswer g (sizeOf (transactEffect g))) (transactEffect g)) ∙ (unfold transactEnds transactCall in z)) in
-    let a = all-of w s r ready v h blocks batch t in
-    (a .allowed, a .world ∙ sym (left-so w s r ready v h blocks batch t z))
+    let a = all-of w s r ready v h blocks batch (sizeOf (transactEffect g)) t in
+    (a .allowed, a .world ∙ sym (left-so w s r ready v h blocks batch (sizeOf (transactEffect g)) t (t .batch) z))

@@ -6,21 +6,20 @@ use mathlib.Core.Bool.{Bool, true, false, cond, not, _||_, false≢true}
 use mathlib.Core.List.{List, [], _∷_, _++_}
 use native.Mathlib.Omega.{arith}
 use lib.Dec.{eqb, leb}
-use lib.ListN.{length, length-append}
+use lib.ListN.{length}
 use borrow.Author.Tests.{eq-eqb, eqb-true, le-leb}
 use Rattle.model.specs.Layout.{maxStart}
 use Rattle.model.specs.State.{stateOf, nextPosition, writerOf, heldOf}
 use Rattle.model.specs.declared.State.{State}
 use Rattle.model.specs.declared.Writer.{Writer}
-use Rattle.model.specs.Effects.{marked}
 use Rattle.model.specs.Questions.{ask}
 use mathlib.Core.Option.{Option}
 use Rattle.model.specs.Book.{Entry, Held, Task, idle, opened, Book}
 use Rattle.model.specs.Book as book
 use Rattle.model.specs.History.{Change, flushes, Service, settles, trims, Call, change, service, flush, settle, trim, call, World, ends, feed, feedChange, isOpening, afterDone, afterCall, step, Allowed}
-use Rattle.abstract_store.specs.Store.{Store, firstGroup, nextGroup, nextOf, placesLeft, promisedTo, mayFlush, isIdle, manyHomes, toSettle, nextStart, Reply, askBatch, replyChange, replyService, reply, numbered, fencedAfter, trimmedTo, afterService, follow}
+use Rattle.abstract_store.specs.Store.{Store, firstGroup, nextGroup, nextOf, placesLeft, promisedTo, mayFlush, isIdle, nextStart, flushBytes, settleBytes, trimBytes, Reply, askBatch, replyChange, replyService, reply, numbered, fencedAfter, trimmedTo, afterService, follow}
 use Rattle.abstract_store.specs.Store as store
-use Rattle.abstract_store.specs.Places.{AllIdle, Drained, drained}
+use Rattle.abstract_store.specs.Places.{AllIdle, LongEnough, Drained, drained}
 use Rattle.model_laws.proofs.trace.Trace.{Ev, hist, closerOf, Apart}
 use Rattle.model_laws.proofs.trace.TraceLaws.{Rising, done-rising}
 use Rattle.theorems.proofs.invariant.Invariant.{Sizes, TaskOk, Running, Invariant}
@@ -34,20 +33,6 @@ use Rattle.theorems.proofs.store.StoreFollows.{follows}
 use Rattle.theorems.proofs.places.PlacesFollow.{told-code, reply-code, follow-done}
 
 -- ---- the drain
-
--- no more homes are written than there are
-marked-most : (f : ℕ → Bool) (n : ℕ) → length (marked f n) ≤ n
-unfolding marked
-marked-most f zero = omega arith
-marked-most f (suc n) = go (f n) (marked-most f n)
-  where
-    go : (d : Bool) → length (marked f n) ≤ n → length (marked f n ++ cond d (n ∷ []) []) ≤ suc n
-    go true h = omega (arith, length-append (marked f n) (n ∷ []))
-    go false h = omega (arith, length-append (marked f n) [])
-
-many-most : (homes : ℕ) (s : Store) → manyHomes homes (toSettle s) ≤ homes
-unfolding manyHomes
-many-most homes s = marked-most _ homes
 
 -- a batch that is long enough
 long-enough : (size : ℕ) (batch : List ℕ) → size ≤ length batch → askBatch size batch ≡ 0
@@ -84,32 +69,17 @@ flush-free s e =
     or-yes (eqb (s .book .filled) 0) _
     (ap (λ (n : ℕ). leb n (7 * (s .start + s .groups) - 7 * (nextGroup s + 1))) e ∙ le-leb 0 (7 * (s .start + s .groups) - 7 * (nextGroup s + 1)) (omega arith))
 
-flush-reply : (s : Store) (batch : List ℕ) → promisedTo (s .promises) 8 ≡ 0 → 518 ≤ length batch → replyChange s (flushes batch) .code ≡ 0
+flush-reply : (s : Store) (batch : List ℕ) → promisedTo (s .promises) 8 ≡ 0 → flushBytes s ≤ length batch → replyChange s (flushes batch) .code ≡ 0
 unfolding replyChange
-flush-reply s batch e l =
-    told-code _ 0 _ ∙ rw (flush-free s e) (unfold ask in long-enough (cond (eqb (s .book .filled) 0) 2 518) batch (go (eqb (s .book .filled) 0)))
-  where
-    go : (d : Bool) → cond d 2 518 ≤ length batch
-    go true = omega arith
-    go false = l
+flush-reply s batch e l = told-code _ 0 _ ∙ rw (flush-free s e) (unfold ask in long-enough (flushBytes s) batch l)
 
-settle-reply : (s : Store) (batch : List ℕ) → s .round ≡ 0 → 68 * s .homes + 2 ≤ length batch → replyService s (settles batch) .code ≡ 0
+settle-reply : (s : Store) (batch : List ℕ) → s .round ≡ 0 → settleBytes s ≤ length batch → replyService s (settles batch) .code ≡ 0
 unfolding replyService
-settle-reply s batch calm l =
-    told-code _ 0 _
-    ∙ rw (eq-eqb (s .round) 0 calm)
-    (unfold ask in long-enough (68 * manyHomes (s .homes) (toSettle s) + 2) batch (omega (arith, many-most (s .homes) s)))
+settle-reply s batch calm l = told-code _ 0 _ ∙ rw (eq-eqb (s .round) 0 calm) (unfold ask in long-enough (settleBytes s) batch l)
 
-trim-reply : (s : Store) (batch : List ℕ) → nextStart s ≤ maxStart → 68 ≤ length batch → replyService s (trims batch) .code ≡ 0
+trim-reply : (s : Store) (batch : List ℕ) → nextStart s ≤ maxStart → trimBytes s ≤ length batch → replyService s (trims batch) .code ≡ 0
 unfolding replyService
-trim-reply s batch m l =
-    told-code _ 0 _
-    ∙ rw (le-leb (nextStart s) maxStart m)
-    (unfold ask in long-enough (cond (eqb (nextStart s) (s .start)) 0 68) batch (go (eqb (nextStart s) (s .start))))
-  where
-    go : (d : Bool) → cond d 0 68 ≤ length batch
-    go true = omega arith
-    go false = l
+trim-reply s batch m l = told-code _ 0 _ ∙ rw (le-leb (nextStart s) maxStart m) (unfold ask in long-enough (trimBytes s) batch l)
 
 -- the book after a flush
 flush-tasks : (b : Book) → book.flush b .tasks ≡ b .tasks
@@ -234,8 +204,7 @@ drained-start G D z w r s a idles f e =
     omega (arith, start-is G D z w r s a [], trim-most G D z w r [] (st .next) m, trim-may G D z w r [] .upto, n .settled)
 
 module _ (G D : ℕ) (z : Sizes G D) (w : World) (r : Running G D w) (s : Store) (a : Agrees G D w s) (idles : AllIdle s) (calm : s .round ≡ 0) (first second third : List ℕ)
-    (l₁ : 518 ≤ length first) (l₂ : 68 * s .homes + 2 ≤ length second) (l₃ : 68 ≤ length third)
-    (most : firstGroup s + book.flush (s .book) .rows ≤ maxStart) where
+    (long : LongEnough w s first second third) (most : firstGroup s + book.flush (s .book) .rows ≤ maxStart) where
   none-promised : promisedTo (s .promises) 8 ≡ 0
   none-promised =
       promised-zero (s .promises) 8
@@ -247,7 +216,7 @@ module _ (G D : ℕ) (z : Sizes G D) (w : World) (r : Running G D w) (s : Store)
   flush-done : ends w (flush first) .code ≡ 0
   flush-done =
       answered G D z w r s a (flush first) (change-is (flushes first)) tt
-      (ap (λ (x : Reply). x .code) (reply-change s (flushes first)) ∙ flush-reply s first none-promised l₁)
+      (ap (λ (x : Reply). x .code) (reply-change s (flushes first)) ∙ flush-reply s first none-promised (long .forFlush))
 
   abbrev w₁ : World
   w₁ = step w (call (flush first))
@@ -279,7 +248,7 @@ module _ (G D : ℕ) (z : Sizes G D) (w : World) (r : Running G D w) (s : Store)
   settle-done : ends w₁ (settle second) .code ≡ 0
   settle-done =
       answered G D z w₁ r₁ s₁ a₁ (settle second) (service-is (settles second)) tt
-      (ap (λ (x : Reply). x .code) (reply-service s₁ (settles second)) ∙ settle-reply s₁ second round₁ (omega (arith, a .homes, a₁ .homes)))
+      (ap (λ (x : Reply). x .code) (reply-service s₁ (settles second)) ∙ settle-reply s₁ second round₁ (long .forSettle))
 
   abbrev w₂ : World
   w₂ = step w₁ (call (settle second))
@@ -322,7 +291,7 @@ module _ (G D : ℕ) (z : Sizes G D) (w : World) (r : Running G D w) (s : Store)
   trim-done : ends w₂ (trim third) .code ≡ 0
   trim-done =
       answered G D z w₂ r₂ s₂ a₂ (trim third) (service-is (trims third)) tt
-      (ap (λ (x : Reply). x .code) (reply-service s₂ (trims third)) ∙ trim-reply s₂ third (omega (arith, start₂, next₂)) l₃)
+      (ap (λ (x : Reply). x .code) (reply-service s₂ (trims third)) ∙ trim-reply s₂ third (omega (arith, start₂, next₂)) (long .forTrim))
 
   abbrev s₃ : Store
   s₃ = follow s₂ w₂ (call (trim third))

@@ -105,7 +105,7 @@ write-zeros (suc n) log area =
     ap {B = Memory} (λ (a : List ℕ). record { log = log; area = a }) (zeros-on area (64 * n) 64 ∙ rw e))
 
 -- the records before the last header: the header's zeros, a fence, unused groups and the homes' zeros
-unfoldable cleared : ℕ → ℕ → List Record
+unfoldable pub cleared : ℕ → ℕ → List Record
 cleared G D = KW (zeros 64) ∷ FN ∷ (blankWrites G 0 G ++ zeroHomes D)
 
 unfoldable ending : ℕ → ℕ → List Record
@@ -116,14 +116,14 @@ unfolding formatted cleared ending
 format-split G D = rw (append-assoc (blankWrites G 0 G) (zeroHomes D))
 
 -- the log as they leave it: unused slots behind a header of zeros
-unfoldable clearedLog : ℕ → List ℕ
+unfoldable pub clearedLog : ℕ → List ℕ
 clearedLog G = zeros 64 ++ unusedSlots G 0 G
 
-length-clearedLog : (G : ℕ) → length (clearedLog G) ≡ 64 + 512 * G
+pub length-clearedLog : (G : ℕ) → length (clearedLog G) ≡ 64 + 512 * G
 unfolding clearedLog
 length-clearedLog G = rw (length-append, length-zeros, length-unusedSlots)
 
-write-cleared : (G D : ℕ) (m : Memory) → length (m .log) ≡ 64 + 512 * G → length (m .area) ≡ 64 * D
+pub write-cleared : (G D : ℕ) (m : Memory) → length (m .log) ≡ 64 + 512 * G → length (m .area) ≡ 64 * D
     → writeRecords (cleared G D) m ≡ record { log = clearedLog G; area = zeros (64 * D) }
 unfolding cleared writeRecords pieces writeEach write clearedLog
 write-cleared G D m l a =
@@ -133,7 +133,7 @@ write-cleared G D m l a =
     ∙ rw (puts-whole (m .log) (clearedLog G) (l ∙ sym (length-clearedLog G)), puts-whole (m .area) (zeros (64 * D)) (a ∙ sym (length-zeros (64 * D)))))
 
 -- the header over it
-cleared-headed : (G D : ℕ) → puts (clearedLog G) 0 (header 0 G D) ≡ emptyLog 0 G D
+pub cleared-headed : (G D : ℕ) → puts (clearedLog G) 0 (header 0 G D) ≡ emptyLog 0 G D
 unfolding clearedLog emptyLog
 cleared-headed G D = puts-front (zeros 64) (unusedSlots G 0 G) (header 0 G D) (length-zeros 64 ∙ sym (length-header 0 G D))
 
@@ -142,7 +142,7 @@ unfolding zeroHomes isFence
 none-zeros zero = tt
 none-zeros (suc n) = none-append (zeroHomes n) _ (none-zeros n) (refl, tt)
 
-none-cleared : (G D : ℕ) → NoFence (blankWrites G 0 G ++ zeroHomes D)
+pub none-cleared : (G D : ℕ) → NoFence (blankWrites G 0 G ++ zeroHomes D)
 none-cleared G D = none-append (blankWrites G 0 G) (zeroHomes D) (none-blanks G 0 G) (none-zeros D)
 
 fences-cleared : (G D : ℕ) → fences (cleared G D) ≡ 1
@@ -155,7 +155,7 @@ fences-format G D =
     ap fences (format-split G D) ∙ fences-append (cleared G D) (ending G D) ∙ omega (arith, fences-cleared G D)
 
 -- the memory of the empty store
-unfoldable emptyMemory : ℕ → ℕ → Memory
+unfoldable pub emptyMemory : ℕ → ℕ → Memory
 emptyMemory G D = record { log = emptyLog 0 G D; area = zeros (64 * D) }
 
 ended-whole : (G D n : ℕ) (chosen : ℕ → Bool)
@@ -208,13 +208,13 @@ format-empties G D f =
 
 -- ---- cut inside
 
--- a memory whose header has no mark
-record Unmarked (G D : ℕ) (m : Memory) : Type 0 where
+-- a memory whose header is not right
+pub record Unfit (G D : ℕ) (m : Memory) : Type 0 where
   pub log : length (m .log) ≡ 64 + 512 * G
   pub area : length (m .area) ≡ 64 * D
-  pub mark : part (m .log) 0 2 ≡ zeros 2
+  pub wrong : headerRight (m .log) G D ≡ false
 
-module _ (G D : ℕ) (z : Sizes G D) (m : Memory) (u : Unmarked G D m) (state newest batch : List ℕ) (l : length state ≡ 1024)
+module _ (G D : ℕ) (z : Sizes G D) (m : Memory) (u : Unfit G D m) (state newest batch : List ℕ) (l : length state ≡ 1024)
     (k : length newest ≡ 8 * homesIn (length (m .area))) where
   lengths : areasRight (loaded (unopened 0 m) state newest batch) ≡ true
   unfolding areasRight loaded unopened
@@ -229,53 +229,62 @@ module _ (G D : ℕ) (z : Sizes G D) (m : Memory) (u : Unmarked G D m) (state ne
   positions = eq-eqb (length newest) (8 * homesIn (length (m .area))) k
 
   header-no : headerFits (loaded (unopened 0 m) state newest batch) ≡ false
-  unfolding headerFits headerRight loaded unopened zeros same
-  header-no = rw (u .mark)
+  unfolding headerFits loaded unopened
+  header-no = rw (ap groupsIn (u .log) ∙ groups-in G, ap homesIn (u .area) ∙ homes-in D, u .wrong)
 
   refused-three : (start size : ℕ) → openAnswer (loaded (unopened 0 m) state newest batch) start size ≡ 3
   unfolding openAnswer ask
   refused-three start size = rw (lengths, stateFits, positions, header-no)
 
-unmarked-closed : (G D : ℕ) → Sizes G D → (m : Memory) → Unmarked G D m → NeverOpens m
+pub unfit-closed : (G D : ℕ) → Sizes G D → (m : Memory) → Unfit G D m → NeverOpens m
 unfolding openCall
-unmarked-closed G D z m u state newest batch l k =
+unfit-closed G D z m u state newest batch l k =
     let g : Given = loaded (unopened 0 m) state newest batch in
     outcome-code g (openAnswer g (openStart g) (sizeOf (openEffect g))) (openEffect g)
     ∙ refused-three G D z m u state newest batch l k (openStart g) (sizeOf (openEffect g))
 
+-- one whose header has no mark
+pub record Unmarked (G D : ℕ) (m : Memory) : Type 0 where
+  pub log : length (m .log) ≡ 64 + 512 * G
+  pub area : length (m .area) ≡ 64 * D
+  pub mark : part (m .log) 0 2 ≡ zeros 2
+
+pub unmarked-closed : (G D : ℕ) → Sizes G D → (m : Memory) → Unmarked G D m → NeverOpens m
+unmarked-closed G D z m u = unfit-closed G D z m (record { log = u .log; area = u .area; wrong = unfold headerRight zeros same in rw (u .mark) })
+
 -- writes of groups and homes do not touch the header
-abbrev NoHeader : List Record → Type 0
+abbrev pub NoHeader : List Record → Type 0
 NoHeader [] = Unit {0}
 NoHeader (GW slot group ∷ rs) = NoHeader rs
 NoHeader (HW home block ∷ rs) = NoHeader rs
 NoHeader (KW header ∷ rs) = ⊥
 NoHeader (FN ∷ rs) = NoHeader rs
 
-no-header-append : (rs ss : List Record) → NoHeader rs → NoHeader ss → NoHeader (rs ++ ss)
+pub no-header-append : (rs ss : List Record) → NoHeader rs → NoHeader ss → NoHeader (rs ++ ss)
 no-header-append [] ss a b = b
 no-header-append (GW slot group ∷ rs) ss a b = no-header-append rs ss a b
 no-header-append (HW home block ∷ rs) ss a b = no-header-append rs ss a b
 no-header-append (KW header ∷ rs) ss a b = absurd a
 no-header-append (FN ∷ rs) ss a b = no-header-append rs ss a b
 
-no-header-blanks : (G start n : ℕ) → NoHeader (blankWrites G start n)
+pub no-header-blanks : (G start n : ℕ) → NoHeader (blankWrites G start n)
 unfolding blankWrites
 no-header-blanks G start zero = tt
 no-header-blanks G start (suc n) = no-header-append (blankWrites G start n) _ (no-header-blanks G start n) tt
 
-no-header-zeros : (n : ℕ) → NoHeader (zeroHomes n)
+pub no-header-zeros : (n : ℕ) → NoHeader (zeroHomes n)
 unfolding zeroHomes
 no-header-zeros zero = tt
 no-header-zeros (suc n) = no-header-append (zeroHomes n) _ (no-header-zeros n) tt
 
 module _ (G D : ℕ) where
-  unmarked-log : (b : Bool) (m : Memory) (at : ℕ) (bs : List ℕ) → 64 ≤ at → Unmarked G D m → Unmarked G D (writeIf b (toLog at bs) m)
+  pub unmarked-log : (b : Bool) (m : Memory) (at : ℕ) (bs : List ℕ) → 64 ≤ at → Unmarked G D m → Unmarked G D (writeIf b (toLog at bs) m)
   unfolding writeIf write
   unmarked-log true m at bs h u =
       record { log = length-puts (m .log) at bs ∙ u .log; area = u .area; mark = part-below (m .log) at bs 0 2 (omega arith) ∙ u .mark }
   unmarked-log false m at bs h u = u
 
-  unmarked-area : (b : Bool) (m : Memory) (at : ℕ) (bs : List ℕ) → Unmarked G D m → Unmarked G D (writeIf b (toArea at bs) m)
+  pub unmarked-area : (b : Bool) (m : Memory) (at : ℕ) (bs : List ℕ) → Unmarked G D m → Unmarked G D (writeIf b (toArea at bs) m)
   unfolding writeIf write
   unmarked-area true m at bs u = record { log = u .log; area = length-puts (m .area) at bs ∙ u .area; mark = u .mark }
   unmarked-area false m at bs u = u
@@ -298,7 +307,7 @@ module _ (G D : ℕ) where
   unmarked-chosen chosen i (FN ∷ rs) m n u = u
 
   -- the header's zeros have landed
-  unmarked-first : (m : Memory) → length (m .log) ≡ 64 + 512 * G → length (m .area) ≡ 64 * D
+  pub unmarked-first : (m : Memory) → length (m .log) ≡ 64 + 512 * G → length (m .area) ≡ 64 * D
       → Unmarked G D (record { log = puts (m .log) 0 (zeros 64); area = m .area })
   unmarked-first m l a =
       record {
@@ -310,7 +319,7 @@ module _ (G D : ℕ) where
       front : part (zeros 64) 0 2 ≡ zeros 2
       front = unfold part zeros in refl
 
-  unmarked-cleared : Unmarked G D (record { log = clearedLog G; area = zeros (64 * D) })
+  pub unmarked-cleared : Unmarked G D (record { log = clearedLog G; area = zeros (64 * D) })
   unmarked-cleared =
       record { log = length-clearedLog G; area = length-zeros (64 * D); mark = unfold clearedLog part zeros in refl }
 
@@ -320,7 +329,7 @@ Left f m = (m ≡ f .memory) ⊎ (NeverOpens m ⊎ (m ≡ afterFormat f .memory)
 
 -- by the number of fences that have passed: none, the first, the second, all
 module _ {G D : ℕ} (f : Formatting G D) where
-  new-memory : afterFormat f .memory ≡ emptyMemory G D
+  pub new-memory : afterFormat f .memory ≡ emptyMemory G D
   unfolding emptyStore unopened emptyMemory
   new-memory = ap (λ (w : World). w .memory) (after-format f)
 

@@ -26,7 +26,7 @@ module _ (G D : ℕ) (z : Sizes G D) where
   opening-answers w k s a (change c) e = absurd (false≢true e)
   opening-answers w k s a (service c) e = absurd (false≢true e)
 
-  answers-at : (w : World) → Invariant G D w → (w .ready ≡ true → NewestTrue w) → (s : Store) → Agrees G D w s → (e : Event) → Allowed w e → AnswersAt w s e
+  pub answers-at : (w : World) → Invariant G D w → (w .ready ≡ true → NewestTrue w) → (s : Store) → Agrees G D w s → (e : Event) → Allowed w e → AnswersAt w s e
   answers-at w (inl k) p s a (call c) h = opening-answers w k s a c (h ∙ ap not (k .ready))
   answers-at w (inr r) p s a (call c) h = call-answers G D z w r s a c (h ∙ ap not (r .ready)) (rights-at G D z w r s a (p (r .ready)) c)
   answers-at w i p s a (crash passed chosen) h = tt

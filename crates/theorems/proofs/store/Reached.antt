@@ -11,15 +11,12 @@ use Rattle.model.specs.NewestTrue.{NewestTrue, NewestThroughout}
 use Rattle.model.specs.History.{Call, Event, call, crash, World, unopened, Formatting, afterFormat, ends, feed, isOpening, afterCall, afterDone, afterRefused, afterCrash, step, after, Allowed, AllAllowed}
 use Rattle.abstract_store.specs.Store.{Store, newStore, Reply, afterReply, reply, replyOf, follow, AnswersAt, AnswersThroughout}
 use Rattle.abstract_store.specs.Store as store
+use Rattle.theorems.specs.Isolation.{followed}
 use Rattle.theorems.proofs.steps.Footprint.{steady}
 use Rattle.model.specs.Book.{Book}
 use Rattle.theorems.proofs.newest.NewestHolds.{newest-kept}
 use Rattle.theorems.proofs.store.AnswersHold.{answers-hold}
 use Rattle.theorems.proofs.demands.DemandTwo.{demand2}
-
-unfoldable pub followed : Store → World → List Event → Store
-followed s w [] = s
-followed s w (e ∷ es) = followed (follow s w e) (step w e) es
 
 pub record Reached (w : World) (s : Store) : Type 0 where
   pub groups : ℕ
@@ -37,7 +34,7 @@ unfolding after
 after-append [] fs w = refl
 after-append (e ∷ es) fs w = after-append es fs (step w e)
 
-followed-append : (es fs : List Event) (s : Store) (w : World) → followed s w (es ++ fs) ≡ followed (followed s w es) (after w es) fs
+pub followed-append : (es fs : List Event) (s : Store) (w : World) → followed s w (es ++ fs) ≡ followed (followed s w es) (after w es) fs
 unfolding after followed
 followed-append [] fs s w = refl
 followed-append (e ∷ es) fs s w = followed-append es fs (follow s w e) (step w e)
@@ -47,6 +44,11 @@ unfolding after
 allowed-append [] fs w a b = b
 allowed-append (e ∷ es) fs w a b = (a .0, allowed-append es fs (step w e) (a .1) b)
 
+pub allowed-split : (es fs : List Event) (w : World) → AllAllowed w (es ++ fs) → AllAllowed w es × AllAllowed (after w es) fs
+unfolding after
+allowed-split [] fs w a = (tt, a)
+allowed-split (e ∷ es) fs w a = let k = allowed-split es fs (step w e) (a .1) in ((a .0, k .0), k .1)
+
 pub begins : {groups homes : ℕ} (f : Formatting groups homes) → Reached (afterFormat f) (newStore groups homes)
 unfolding after followed
 begins {groups} {homes} f = record { groups = groups; homes = homes; format = f; events = []; allowed = tt; world = refl; store = refl }
@@ -55,7 +57,7 @@ one-step : (w : World) (e : Event) → after w (e ∷ []) ≡ step w e
 unfolding after
 one-step w e = refl
 
-one-follow : (s : Store) (w : World) (e : Event) → followed s w (e ∷ []) ≡ follow s w e
+pub one-follow : (s : Store) (w : World) (e : Event) → followed s w (e ∷ []) ≡ follow s w e
 unfolding followed
 one-follow s w e = refl
 
@@ -75,6 +77,11 @@ goes-on w s e r a =
           ∙ ap (λ (t : Store). followed t w (e ∷ [])) (r .store) ∙ one-follow s w e;
     }
 
+pub goes-along : (es : List Event) (w : World) (s : Store) → Reached w s → AllAllowed w es → Reached (after w es) (followed s w es)
+unfolding after followed
+goes-along [] w s r a = r
+goes-along (e ∷ es) w s r a = goes-along es (step w e) (follow s w e) (goes-on w s e r (a .0)) (a .1)
+
 -- ---- what the claims say
 
 last-answers : (es : List Event) (e : Event) (w : World) (s : Store) → AnswersThroughout w s (es ++ (e ∷ []))
@@ -93,7 +100,7 @@ unfolding after
 last-live [] w h = h
 last-live (e ∷ es) w h = last-live es (step w e) (h .2)
 
-call-answers : (w : World) (s : Store) (c : Call) → Reached w s → isOpening c ≡ not (w .ready) → replyOf (ends w c) ≡ reply s c
+pub call-answers : (w : World) (s : Store) (c : Call) → Reached w s → isOpening c ≡ not (w .ready) → replyOf (ends w c) ≡ reply s c
 call-answers w s c r a =
     let w₀ : World = afterFormat (r .format) in
     let s₀ : Store = newStore (r .groups) (r .homes) in

@@ -123,12 +123,12 @@ module _ (G D : ℕ) (z : Sizes G D) (w : World) (r : Running G D w) (s : Store)
 
   -- ---- what every call asks first
 
-  areas-right : (block batch : List ℕ) (v h : ℕ) → areasRight (lent w block batch v h) ≡ true
+  pub areas-right : (block batch : List ℕ) (v h : ℕ) → areasRight (lent w block batch v h) ≡ true
   unfolding areasRight lent
   areas-right block batch v h =
       rw (r .copies .logSize, r .copies .areaSize, log-length-right G (z .low) (z .high) .1, data-length-right D (z .some-home) (z .homes) .1)
 
-  state-right : (block batch : List ℕ) (v h : ℕ) → stateRight (lent w block batch v h) ≡ true
+  pub state-right : (block batch : List ℕ) (v h : ℕ) → stateRight (lent w block batch v h) ≡ true
   unfolding stateRight lent
   state-right block batch v h = rw (r .copies .stateSize)
 
@@ -136,11 +136,11 @@ module _ (G D : ℕ) (z : Sizes G D) (w : World) (r : Running G D w) (s : Store)
   unfolding lent
   lent-groups block batch v h = ap groupsIn (r .copies .logSize) ∙ groups-in G
 
-  lent-homes : (block batch : List ℕ) (v h : ℕ) → homes (lent w block batch v h) ≡ D
+  pub lent-homes : (block batch : List ℕ) (v h : ℕ) → homes (lent w block batch v h) ≡ D
   unfolding lent
   lent-homes block batch v h = ap homesIn (r .copies .areaSize) ∙ homes-in D
 
-  state-ordered : (block batch : List ℕ) (v h : ℕ) → stateInOrder (lent w block batch v h) ≡ true
+  pub state-ordered : (block batch : List ℕ) (v h : ℕ) → stateInOrder (lent w block batch v h) ≡ true
   unfolding stateInOrder
   state-ordered block batch v h = rw (lent-groups block batch v h, lent-homes block batch v h) (unfold lent in order-in (w .state) G D o)
 
@@ -148,7 +148,7 @@ module _ (G D : ℕ) (z : Sizes G D) (w : World) (r : Running G D w) (s : Store)
   unfolding askState ask
   asked block batch v h k = rw (areas-right block batch v h, state-right block batch v h, state-ordered block batch v h)
 
-  newest-right : (block batch : List ℕ) (v h : ℕ) → newestRight (lent w block batch v h) ≡ true
+  pub newest-right : (block batch : List ℕ) (v h : ℕ) → newestRight (lent w block batch v h) ≡ true
   unfolding newestRight
   newest-right block batch v h =
       rw (lent-homes block batch v h) (unfold lent in eq-eqb (length (w .newest)) (8 * D) (a .newest (r .ready)))

@@ -1,4 +1,4 @@
--- Laws of the abstract store's definitions: replies, the homes that transactions write, the lengths of batches. Assumes nothing.
+-- Laws of the abstract store's definitions: the homes that transactions write, the lengths of batches. Assumes nothing.
 use Prim.Native.Nat.{ℕ, zero, suc, _+_, _-_, _*_, _≤_, _<_}
 use mathlib.Core.Path.{_≡_, refl, sym, ap, _∙_}
 use mathlib.Core.Logic.{_⊎_, inl, inr}
@@ -14,39 +14,16 @@ use Rattle.model.specs.Layout.{unusedGroup, blockAt, homeAt}
 use Rattle.model.specs.Commit.{newestIn, orElse, newest, found}
 use Rattle.model.specs.Batch.{Record, GW, HW, KW, FN, recordBytes, batchBytes}
 use Rattle.model.specs.Effects.{Given, Effect, marked, blankWrites, homeWrites}
-use Rattle.model.specs.Questions.{ask}
-use Rattle.model.specs.Calls.{Outcome, refused, done, sizeOf, outcome}
 use Rattle.model.specs.Book.{Held}
 use Rattle.model.specs.DemandTwo.{contents, eachContents}
-use Rattle.abstract_store.specs.Store.{Reply, told, replyOf, wrote, anyWrote}
+use Rattle.abstract_store.specs.Store.{wrote, anyWrote}
+pub use Rattle.abstract_store.proofs.ReplyLaws.{reply-outcome, told-same, answers, ask-same}
 use Rattle.model_laws.proofs.bytes.ByteLaws.{length-part}
 use Rattle.model_laws.proofs.bytes.EmptyLaws.{length-unusedGroup}
 use Rattle.model_laws.proofs.state.BatchLaws.{length-GW, length-HW, length-KW, length-FN, batch-append, batch-one}
 use Rattle.model_laws.proofs.state.QuestionLaws.{ask-passed}
 use Rattle.model_laws.proofs.trace.HomeLaws.{In}
 use Rattle.theorems.proofs.invariant.LiveLog.{found-else}
-
--- ---- replies
-
-pub reply-outcome : (g : Given) (a : ℕ) (e : Effect) → replyOf (outcome g a e) ≡ told a (e .figure) (sizeOf e)
-unfolding outcome done refused told replyOf sizeOf
-reply-outcome g zero e = refl
-reply-outcome g (suc k) e = refl
-
--- two replies are the same if their numbers are and, where that is 0, their figures and sizes
-pub told-same : (a b f f′ s s′ : ℕ) → a ≡ b → (b ≡ 0 → (f ≡ f′) × (s ≡ s′)) → told a f s ≡ told b f′ s′
-unfolding told
-told-same a zero f f′ s s′ e h = let k = h refl in rw (e, k .0, k .1)
-told-same a (suc b) f f′ s s′ e h = rw e
-
-pub answers : (g : Given) (a : ℕ) (e : Effect) (b f s : ℕ) → a ≡ b → (b ≡ 0 → (e .figure ≡ f) × (sizeOf e ≡ s)) → replyOf (outcome g a e) ≡ told b f s
-answers g a e b f s q h = reply-outcome g a e ∙ told-same a b (e .figure) f (sizeOf e) s q h
-
--- a question, and what follows if it is answered yes
-pub ask-same : (b : Bool) (k x y : ℕ) → (b ≡ true → x ≡ y) → ask b k x ≡ ask b k y
-unfolding ask
-ask-same true k x y h = h refl
-ask-same false k x y h = refl
 
 -- ---- the homes that transactions write
 

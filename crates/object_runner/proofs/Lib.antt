@@ -1,0 +1,6 @@
+-- The actions are the motions.
+pub mod MovesHold
+pub mod GoesOnHolds
+pub mod ExampleHolds
+-- The code does what the definition says.
+pub mod ActionLaws
