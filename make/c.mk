@@ -130,7 +130,12 @@ question-cost: $(C_OUT)/question_cost
 	sh tests/costs/question-cost.sh $(C_OUT)
 
 wait-cost: $(C_OUT)/wait_cost
-	sh tests/costs/wait-cost.sh $(C_OUT)
+	@if command -v valgrind > /dev/null; then sh tests/costs/wait-cost.sh $(C_OUT); else echo "skipped the longest waits: valgrind is not installed"; fi
+
+# Their bounds are those of the C file.
+ifeq ($(LIB),$(C_OUT)/libkagutin.a)
+c-check: wait-cost
+endif
 
 # A process killed at random instants, long.
 KILLS ?= 1000

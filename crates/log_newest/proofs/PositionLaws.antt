@@ -3,7 +3,6 @@ use mathlib.Core.Path.{_≡_, refl, sym, ap, _∙_}
 use mathlib.Core.Bool.{Bool, true, false, cond}
 use mathlib.Core.List.{List, [], _∷_}
 use Prim.Native.Nat.{ℕ, zero, suc, _+_, _-_, _*_, _≤_, _<_}
-use native.Mathlib.Decide.{decLt}
 use native.Mathlib.Numerals.{add-one}
 use native.Mathlib.Omega.{arith}
 use borrow.Author.Tests.{lt-ltb, le-ltb}
@@ -57,26 +56,6 @@ module _ (newest : List ℕ) (bound : ℕ) where
       let k : keptFor now n ≡ keptFor newest n = ap (λ xs. keptFor xs n) e ∙ forget-above newest bound n n (omega arith) in
       q ∙ rw (add-one n, k, e)
 
-  -- homes whose positions lie from the bound on
-  pub forget-none : (now : List ℕ) (home m : ℕ) → ((k : ℕ) → k < m → bound ≤ keptFor now (home + k)) → now ≡ forget newest bound home
-      → now ≡ forget newest bound (home + m)
-  forget-none now home zero h e = let z : home + 0 ≡ home = omega arith in rw z e
-  forget-none now home (suc m) h e =
-      let z : home + suc m ≡ home + m + 1 = omega arith in
-      rw z
-      (forget-more now now (home + m) (forget-none now home m (λ k l. h k (omega arith)) e)
-      (remembered now (home + m) bound (keptFor now (home + m)) refl (h m (omega arith))))
-
--- eight in a row
-pub eight : (P : ℕ → Type 0) → P 0 → P 1 → P 2 → P 3 → P 4 → P 5 → P 6 → P 7 → (k : ℕ) → k < 8 → P k
-eight P a b c d e f g h = more 7 (more 6 (more 5 (more 4 (more 3 (more 2 (more 1 (more 0 none a) b) c) d) e) f) g) h
-  where
-    none : (k : ℕ) → k < 0 → P k
-    none k l = absurd (omega arith)
-
-    more : (n : ℕ) → ((k : ℕ) → k < n → P k) → P n → (k : ℕ) → k < n + 1 → P k
-    more n below here k l = go (decLt k n)
-      where
-        go : Dec (k < n) → P k
-        go (yes d) = below k d
-        go (no d) = let e : k ≡ n = omega arith in rw e here
+  pub forget-next : (now after : List ℕ) (n m : ℕ) → m ≡ n + 1 → now ≡ forget newest bound n
+      → after ≡ cond (ltb (keptFor now n) bound) (keep now n noPosition) now → after ≡ forget newest bound m
+  forget-next now after n m k e q = rw k (forget-more now after n e q)

@@ -1,8 +1,8 @@
 // The strip of newest positions: read, changed, emptied, and rid of what lies before a new start.
 ghost use mathlib.Core.Path.{_≡_};
-ghost use mathlib.Core.Bool.{true, cond};
+ghost use mathlib.Core.Bool.{cond};
 ghost use mathlib.Core.List.{List};
-ghost use Prim.Native.Nat.{ℕ, _+_, _*_, _≤_, _<_};
+ghost use Prim.Native.Nat.{ℕ, _+_, _*_, _≤_};
 ghost use lib.Dec.{ltb};
 ghost use lib.ListN.{length};
 ghost use Rattle.model.specs.Newest.{noPosition, keptFor, keep, nothingKept, forget};
@@ -64,33 +64,19 @@ fn forget_to(newest: &mut [u8], bound: u64, from: usize, upto: usize)
     }
 }
 
-// Whether the positions kept for the eight homes from `home` on all lie from a bound on.
-fn eight_from(newest: &[u8], bound: u64, home: usize) -> bool
+// The same for the eight homes from `home` on, in a row.
+fn forget_eight(newest: &mut [u8], bound: u64, home: usize)
     requires { ⌜ 8 * home + 64 ≤ length (now newest) ⌝ }
-    ensures { λ r. ⌜ (r ≡ true → (k : ℕ) → k < 8 → bound ≤ keptFor (now (newest .entry)) (home + k)) ⌝ }
+    ensures { λ _. ⌜ ((before : List ℕ) → now (newest .entry) ≡ forget before bound home → now (newest .exit) ≡ forget before bound (home + 8)) ⌝ }
 {
-    if kept(newest, home) < bound {
-        return false;
-    }
-    if kept(newest, home + 1) < bound {
-        return false;
-    }
-    if kept(newest, home + 2) < bound {
-        return false;
-    }
-    if kept(newest, home + 3) < bound {
-        return false;
-    }
-    if kept(newest, home + 4) < bound {
-        return false;
-    }
-    if kept(newest, home + 5) < bound {
-        return false;
-    }
-    if kept(newest, home + 6) < bound {
-        return false;
-    }
-    kept(newest, home + 7) >= bound
+    forget_one(newest, bound, home);
+    forget_one(newest, bound, home + 1);
+    forget_one(newest, bound, home + 2);
+    forget_one(newest, bound, home + 3);
+    forget_one(newest, bound, home + 4);
+    forget_one(newest, bound, home + 5);
+    forget_one(newest, bound, home + 6);
+    forget_one(newest, bound, home + 7);
 }
 
 // Keeps no position any more for the first `homes` homes where it lies before a bound, eight at a time.
@@ -100,9 +86,7 @@ pub fn forget(newest: &mut [u8], bound: u64, homes: usize)
 {
     let mut home: usize = 0;
     while home + 8 <= homes {
-        if !eight_from(newest, bound, home) {
-            forget_to(newest, bound, home, home + 8);
-        }
+        forget_eight(newest, bound, home);
         home += 8;
     }
     forget_to(newest, bound, home, homes)

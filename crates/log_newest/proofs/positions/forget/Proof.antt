@@ -1,13 +1,10 @@
 -- `log_newest::forget` meets its contract. The loop's invariant: the first `home` homes have forgotten what lies before the bound. Assumes nothing.
 use mathlib.Core.Path.{_≡_, refl, ap, _∙_}
-use mathlib.Core.Logic.{⊎-elim}
 use Prim.Native.Nat.{_+_, _-_, _≤_}
 use native.Mathlib.Omega.{arith}
 use lib.ListN.{length}
-use borrow.Author.Tests.{not-false}
 use Rattle.model.specs.Newest.{forget}
 use Rattle.model_laws.proofs.state.NewestLaws.{length-forget}
-use Rattle.log_newest.proofs.PositionLaws.{forget-none}
 use Rattle.log_newest.proofs.positions.forget.Statement.{statement}
 use Rattle.log_newest.proofs.positions.forget.Tie as tie
 
@@ -24,14 +21,8 @@ loop-holds c = (refl, omega arith, refl)
 add-loop : tie.Need-add-loop Inv-loop μ-loop
 add-loop c = omega arith
 
-eight-from-requires : tie.Need-eight-from-requires Inv-loop μ-loop
-eight-from-requires c κs = omega arith
-
-add-forget-to : tie.Need-add-forget-to Inv-loop μ-loop
-add-forget-to c = omega arith
-
-forget-to-requires : tie.Need-forget-to-requires Inv-loop μ-loop
-forget-to-requires c κs = (omega arith, omega arith)
+forget-eight-requires : tie.Need-forget-eight-requires Inv-loop μ-loop
+forget-eight-requires c κs = omega arith
 
 add-home : tie.Need-add-home Inv-loop μ-loop
 add-home c = omega arith
@@ -41,20 +32,19 @@ loop-less c = omega arith
 
 loop-again : tie.Need-loop-again Inv-loop μ-loop
 loop-again c =
-    let l = c .before .before .before .before .loop in
-    let a = c .before .before .before .before .before .before .args in
-    let e : c .if1 .newest ≡ forget (a .newest .now) (a .bound) (l .home + 8) =
-    ⊎-elim (λ w. w .5 ∙ w .2 .ensures _ (l .inv .0)) (λ w. w .1 ∙ forget-none _ _ _ _ 8 (c .before .eight-from .ensures (not-false _ (w .0 .left))) (l .inv .0)) (c .if1 .came) in
+    let f = c .before .before .forget-eight in
+    let l = c .before .before .before .before .before .loop in
+    let e = f .ensures _ (l .inv .0) in
     (e, omega arith, ap length e ∙ length-forget _ _ _)
 
-forget-to-requires-2 : tie.Need-forget-to-requires-2 Inv-loop μ-loop
-forget-to-requires-2 c κs = (omega arith, omega arith)
+forget-to-requires : tie.Need-forget-to-requires Inv-loop μ-loop
+forget-to-requires c κs = (omega arith, omega arith)
 
 same-length : tie.Need-same-length Inv-loop μ-loop
-same-length c = omega (arith, c .before .before .forget-to2 .kept, c .before .before .before .before .before .loop .inv .2)
+same-length c = omega (arith, c .before .before .forget-to .kept, c .before .before .before .before .before .loop .inv .2)
 
 returns : tie.Need-returns Inv-loop μ-loop
-returns c = c .before .before .forget-to2 .ensures _ (c .before .before .before .before .before .loop .inv .0)
+returns c = c .before .before .forget-to .ensures _ (c .before .before .before .before .before .loop .inv .0)
 
 pub forget-spec : {M : Type 1} → statement M
 forget-spec =
@@ -64,12 +54,10 @@ forget-spec =
     μ-loop
     loop-holds
     add-loop
-    eight-from-requires
-    add-forget-to
-    forget-to-requires
+    forget-eight-requires
     add-home
     loop-less
     loop-again
-    forget-to-requires-2
+    forget-to-requires
     same-length
     returns)
