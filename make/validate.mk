@@ -7,7 +7,7 @@ SOLVER ?= z3
 # A Python that has Debian's python3-z3 and python3-pycparser.
 VALIDATE_PYTHON ?= $(shell for p in python3 /usr/bin/python3; do $$p -c 'import z3, pycparser' 2> /dev/null && echo $$p && break; done)
 # Each file with the words that the generator got for it, without the command itself.
-VALIDATED = --include include --file $(DIST_C) $(GENERATE_WORDS) \
+VALIDATED = --include include --joined dist/kagutin_all.c --file $(DIST_C) $(GENERATE_WORDS) \
     $(foreach b,$(STANDALONE),--file dist/kagutin_$(b).c $(wordlist 3,99,$(GENERATE_$(b)))) \
     $(foreach u,$(UNITS),--file dist/kagutin_$(u).c $(wordlist 3,99,$(GENERATE_$(u))))
 
@@ -20,7 +20,7 @@ validate:
 .PHONY: validate-check validate-quick-check
 
 validate-check:
-	$(VALIDATE_PYTHON) tests/validator/check.py $(VALIDATED)
+	$(VALIDATE_PYTHON) tests/validator/check.py --done target/validate-check.done $(VALIDATED)
 
 validate-quick-check:
 	$(VALIDATE_PYTHON) tests/validator/check.py --quick $(VALIDATED)

@@ -103,9 +103,9 @@ class Compare:
         self.not_empty(ours)
 
     def not_empty(self, end):
-        """The program's facts leave a run to its end: from facts that contradict each other all would follow."""
+        """The program's facts leave a run to its end, as far as a second tells: from facts that contradict each other all would follow."""
         facts = [z3.Implies(conjunction(needed), test) for needed, test in self.p.facts]
-        if end is not None and self.solver.contradict([abstracted(a) for a in [*end.guard, *facts]]) == 'unsat':
+        if end is not None and self.solver.contradict([abstracted(a) for a in [*end.guard, *facts]], 1) == 'unsat':
             raise Refused('the facts of the program contradict each other')
 
     def same_head(self, n, ours, theirs):

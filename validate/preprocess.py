@@ -54,10 +54,13 @@ def preprocessed(path, include, target):
 
 # ---- the file as it is written
 
-def source(path):
-    """The text without comments, lines put together. What compilers may read in two ways is refused."""
+def raw(path):
     with open(path, 'rb') as handle:
-        text = handle.read().decode('latin-1')
+        return handle.read().decode('latin-1')
+
+
+def source(text):
+    """The text without comments, lines put together. What compilers may read in two ways is refused."""
     if re.search(r'\?\?|%:|<:|:>|<%|%>|\\[^\S\n]|//', text):
         raise Refused('trigraphs, digraphs, a backslash before a blank, or a comment that C90 has not')
     text = re.sub(r'/\*.*?\*/|("(?:\\.|[^"\\\n])*")', lambda m: m[1] or ' ', text.replace('\\\n', ''), flags=re.S)
@@ -71,7 +74,7 @@ def source(path):
 
 def directives(path):
     """(word, rest) of each directive. What a compiler defines may stand in conditions only."""
-    text = source(path)
+    text = source(raw(path))
     found = re.findall(r'^ *# *(\w*)(.*)$', text, re.M)
     if ASKED & set(re.findall(r'\w+', re.sub(r'^ *# *(?:el)?if.*$', '', text, flags=re.M))):
         raise Refused('what a compiler defines, outside a condition')

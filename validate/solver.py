@@ -15,23 +15,23 @@ class Solver:
     def __init__(self, name='z3'):
         self.name, self.asked, self.seconds = name, 0, 0.0
 
-    def contradict(self, assertions):
+    def contradict(self, assertions, seconds=SECONDS):
         """'unsat', 'sat' or 'unknown'."""
         start, self.asked = time.time(), self.asked + 1
         solver = z3.SolverFor('QF_UFBV')
-        solver.set('timeout', 1000 * SECONDS)
+        solver.set('timeout', 1000 * seconds)
         solver.add(*assertions)
-        said = str(solver.check()) if self.name == 'z3' else self.by_text(solver)
+        said = str(solver.check()) if self.name == 'z3' else self.by_text(solver, seconds)
         self.seconds += time.time() - start
         return said
 
-    def by_text(self, solver):
+    def by_text(self, solver, seconds):
         """cvc5's answer to the same question in SMT-LIB. Names are numbered anew: SMT-LIB has no quotes inside quotes."""
         text = '(set-logic QF_UFBV)\n' + solver.to_smt2().replace('(set-info :status unknown)', '')
         with tempfile.NamedTemporaryFile('w', suffix='.smt2', delete=False) as handle:
             handle.write(text)
         try:
-            run = subprocess.run(['cvc5', '--lang=smt2', f'--tlimit={1000 * SECONDS}', handle.name], capture_output=True, text=True)
+            run = subprocess.run(['cvc5', '--lang=smt2', f'--tlimit={1000 * seconds}', handle.name], capture_output=True, text=True)
         finally:
             os.unlink(handle.name)
         said = run.stdout.strip().split('\n')[0]

@@ -1,7 +1,7 @@
 #!/usr/bin/env python3
 """Validates C files against the proved program they were made from: for all inputs, on every target, each function.
 
-    python3 validate/validate.py [--solver z3|cvc5] [--jobs N] [--only NAME] --include include \\
+    python3 validate/validate.py [--solver z3|cvc5] [--jobs N] [--only NAME] [--joined dist/kagutin_all.c] --include include \\
         --file dist/kagutin.c --rlib target/rlib --source crates --export kagutin --header kagutin.h ...
 
 After each --file come the words that the generator got for it. Ends with status 1 if anything is refused, unknown or not decided.
@@ -13,6 +13,7 @@ import time
 
 from files import File, Words
 from helpers_check import check_forms
+from joined import check_joined
 from preprocess import check_machines
 from program import Program
 from solver import Solver
@@ -28,7 +29,7 @@ def read_words(argv):
     """The options before the first --file, and the Words of each file."""
     at = [i for i, word in enumerate(argv) if word == '--file'] + [len(argv)]
     options = dict(zip(argv[:at[0]:2], argv[1:at[0]:2]))
-    unknown = set(options) - {'--solver', '--jobs', '--only', '--include'}
+    unknown = set(options) - {'--solver', '--jobs', '--only', '--include', '--joined'}
     if unknown or len(at) == 1:
         sys.exit(__doc__)
     return options, [Words(argv[i + 1], argv[i + 2:j]) for i, j in zip(at, at[1:])]
@@ -98,6 +99,11 @@ def main():
     SHARED.update(program=Program(all_words[0].one('--rlib')), include=options.get('--include', 'include'), solver=options.get('--solver', 'z3'))
     check_forms(Solver(SHARED['solver']))
     todo, refused = pieces(all_words, only)
+    joined = options.get('--joined')
+    try:
+        parts = check_joined(joined, joined[:-2] + '.h', [words.path for words in all_words], SHARED['include']) if joined else 0
+    except Refused as error:
+        refused.append(f'{joined}: {error}')
     jobs = int(options.get('--jobs', os.cpu_count() or 1))
     with multiprocessing.get_context('fork').Pool(jobs) as pool:
         done = list(pool.imap_unordered(work, todo))
@@ -105,6 +111,8 @@ def main():
     for line in sorted(refused):
         print(f'REFUSED {line}')
     count = sum(len(names) for what, _, _, names in todo if what == 'functions')
+    if joined and not refused:
+        print(f'validate: {joined} has {parts} of the files word for word')
     print(f'validate: {len(all_words)} files on {len(list(targets()))} targets, {count} functions with their widths, '
           f'{sum(what == "helpers" for what, *_ in todo)} helpers; {len(refused)} refused; '
           f'{sum(r[1] for r in done if r[4] == "texts")} ways to define macros, {sum(r[1] for r in done if r[4] == "functions")} goals by form, '

@@ -19,17 +19,20 @@ import sys
 import tempfile
 import time
 
-from subjects import HERE, ROOT, TARGETS, Failed, generate, machine_code, refusal, refused_somewhere, same_behaviour, text_of, write
+from subjects import HERE, ROOT, TARGETS, Failed, generate, machine_code, refusal, refusals, refused_somewhere, same_behaviour, text_of, write
 
 from equivalent import EQUIVALENT  # noqa: E402
 from faults import FAULTS  # noqa: E402
 from files import Words  # noqa: E402
-from mutations import functions, mutant  # noqa: E402
+from joined import check_joined  # noqa: E402
+from mutations import functions, mutant, wrong_edits  # noqa: E402
 from program import Program  # noqa: E402
 from programs import write_program  # noqa: E402
-from tricks import TRICKS  # noqa: E402
+from terms import Refused  # noqa: E402
+from tricks import JOINED, TRICKS  # noqa: E402
 from validate import read_words  # noqa: E402
 
+TOGETHER = 10           # wrong edits of one file at once
 SHARED = {}             # include folder, words of the files and the program, before the processes start
 
 
@@ -66,21 +69,34 @@ def random_program(seed, mutants):
         return counts
 
 
-def dist_edit(k):
-    """The k-th wrong edit: two of three in the store's own file, the others in all files in turn."""
+def dist_edits(k):
+    """Wrong edits, each of another function of one file: a call there is not interpreted, so they do not meet. Two of three times the
+    store's own file, else all files in turn."""
     files = [words.path for words in SHARED['words']]
     right = files[0] if k % 3 else files[k // 3 % len(files)]
-    text = text_of(right)
-    name, wrong, what = mutant(random.Random(k), text, functions(text))
+    lines, edits = text_of(right).split('\n'), wrong_edits(random.Random(k), text_of(right), TOGETHER)
     with tempfile.TemporaryDirectory() as folder:
-        path = os.path.join(folder, os.path.basename(right))
-        write(path, wrong)
-        if refusal(SHARED['program'], given(right), path, SHARED['include'], TARGETS[k % len(TARGETS)], [name]):
-            return {'refused': 1}
-        if machine_code(path, SHARED['include'], f'{folder}/wrong.o') == machine_code(right, SHARED['include'], f'{folder}/right.o'):
-            return {'the same machine code': 1}
+        path, target = os.path.join(folder, os.path.basename(right)), TARGETS[k % len(TARGETS)]
+
+        def against(names):
+            write(path, '\n'.join({**dict(enumerate(lines)), **{n: line for name in names for n, line in edits[name][0].items()}}.values()))
+            return refusals(SHARED['program'], given(right), path, SHARED['include'], target, names)
+        refused = against(list(edits))
+        refused = {name for name in edits if against([name])} if '' in refused else set(refused)
+        counts = {'refused': len(refused)}
+        for name in sorted(set(edits) - refused):
+            against([name])
+            how = explained(right, path, name, edits[name][1], folder)
+            counts[how] = counts.get(how, 0) + 1
+        return counts
+
+
+def explained(right, path, name, what, folder):
+    """Why an accepted edit means the same."""
+    if machine_code(path, SHARED['include'], f'{folder}/wrong.o') == machine_code(right, SHARED['include'], f'{folder}/right.o'):
+        return 'the same machine code'
     if (name, what) in EQUIVALENT:
-        return {'the same by a reason in equivalent.py': 1}
+        return 'the same by a reason in equivalent.py'
     raise Failed(f'{right}: {name} was accepted with an edit that equivalent.py does not explain: {what}')
 
 
@@ -97,6 +113,23 @@ def trick(k):
         if not refused_somewhere(right, path, SHARED['include'], SHARED['program'], given(right)):
             raise Failed(f'{right}: a trick that is not refused: {what}')
     return {'refused': 1}
+
+
+def joined_edit(k):
+    old, new, in_header, what = JOINED[k]
+    texts = {'.c': text_of(SHARED['joined']), '.h': text_of(SHARED['joined'][:-2] + '.h')}
+    at = texts['.c'].index('==== dist/kagutin_hours.c') if not in_header else 0
+    which = '.h' if in_header else '.c'
+    with tempfile.TemporaryDirectory() as folder:
+        for end, text in texts.items():
+            write(f'{folder}/all{end}', text[:at] + text[at:].replace(old, new, 1) if end == which else text)
+        if text_of(f'{folder}/all{which}') == texts[which]:
+            raise Failed(f'no text in the joined file to make wrong: {old}')
+        try:
+            check_joined(f'{folder}/all.c', f'{folder}/all.h', [words.path for words in SHARED['words']], SHARED['include'])
+        except Refused:
+            return {'refused': 1}
+    raise Failed(f'an edit of the joined file that is not refused: {what}')
 
 
 def port_with(folder, file, old, new):
@@ -130,15 +163,16 @@ def fault(k):
 
 # ---- all of them
 
-KINDS = {'random': (random_program, 'random programs with wrong edits'), 'dist': (dist_edit, 'wrong edits of dist/'),
-         'trick': (trick, 'tricks in dist/'), 'fault': (fault, 'faults in port/')}
+KINDS = {'random': (random_program, 'random programs with wrong edits'), 'dist': (dist_edits, 'times ten wrong edits of dist/'),
+         'trick': (trick, 'tricks in dist/'), 'joined': (joined_edit, 'wrong edits of the joined file'), 'fault': (fault, 'faults in port/')}
 
 
 def tasks(quick, fresh):
     """(kind, arguments). The gate has fixed ones; the long form has more, and random programs of a new seed."""
-    seeds, mutants = ([1, 2, 3], 8) if quick else ([932512, *range(1, 21), *range(fresh, fresh + 10)], 40)
-    return [('random', [seed, mutants]) for seed in seeds] + [('dist', [k]) for k in range(24 if quick else 300)] \
-        + [('trick', [k]) for k in range(len(TRICKS))] + [('fault', [k]) for k in range(0, len(FAULTS), 6 if quick else 1)]
+    seeds, mutants = ([1, 2, 3], 8) if quick else ([932512, *range(1, 21), *range(fresh, fresh + 10)], 20)
+    return [('random', [seed, mutants]) for seed in seeds] + [('dist', [k]) for k in range(3 if quick else 30)] \
+        + [('trick', [k]) for k in range(len(TRICKS))] + [('joined', [k]) for k in range(len(JOINED))] \
+        + [('fault', [k]) for k in range(0, len(FAULTS), 6 if quick else 1)]
 
 
 def work(task):
@@ -186,7 +220,7 @@ def main():
     quick, options = '--quick' in argv[:at], dict(zip(argv[:at], argv[1:at] + ['']))
     fresh, done = resumed(options.get('--done'), int(options.get('--seed', int(time.time()) % 1000000)))
     given_words, all_words = read_words(argv[at:])
-    SHARED.update(include=given_words['--include'], words=all_words, program=Program(all_words[0].one('--rlib')))
+    SHARED.update(include=given_words['--include'], joined=given_words['--joined'], words=all_words, program=Program(all_words[0].one('--rlib')))
     if not quick:
         print(f'validate-check: new random programs from seed {fresh} (--seed repeats them); {len(done)} tasks were done before', flush=True)
     finished = [task for task, *_ in done]

@@ -66,3 +66,12 @@ def mutant(rng, text, found):
         if new is not None and new != lines:
             at = next(n for n in range(len(lines)) if lines[n] != new[n])
             return name, '\n'.join(new), f'{lines[at].strip()}  ->  {new[at].strip() or "nothing"}'
+
+
+def wrong_edits(rng, text, count):
+    """function -> (its changed lines by number, what was changed), of so many functions."""
+    lines, found, out = text.split('\n'), functions(text), {}
+    while len(out) < min(count, len(found) // 2):
+        name, wrong, what = mutant(rng, text, [f for f in found if f[0] not in out])
+        out[name] = {n: line for n, line in enumerate(wrong.split('\n')) if line != lines[n]}, what
+    return out

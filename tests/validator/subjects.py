@@ -44,21 +44,31 @@ def generate(port, words, out, *passes):
 
 # ---- validated
 
-def refusal(program, words, path, include, target, names=None, helpers=()):
-    """What the validator says against a file, or None. `names`: only these functions."""
+def said_against(step):
+    """What the validator says against a step, or None. As validate.py has it, what nothing was made for is refused."""
     try:
-        file = File(program, Words(path, words), include, target)
-        file.check_border()
-        solver = Solver('z3')
-        for name in helpers:
-            file.check_helper(solver, name)
-        for name in names if names is not None else file.functions():
-            file.validate(solver, name)
+        step()
     except Refused as refused:
         return str(refused)
-    except Exception as error:                                      # as validate.py has it: what nothing was made for is refused
+    except Exception as error:
         return f'{type(error).__name__}: {error}'
     return None
+
+
+def refusals(program, words, path, include, target, names=None, helpers=()):
+    """By name what the validator says against the file ('') or a function, if anything. `names`: only these functions."""
+    found, solver = {}, Solver('z3')
+    found[''] = said_against(lambda: found.update(file=File(program, Words(path, words), include, target)) or found['file'].check_border())
+    file = found.pop('file', None)
+    if not found['']:
+        found |= {name: said_against(lambda name=name: file.check_helper(solver, name)) for name in helpers}
+        found |= {name: said_against(lambda name=name: file.validate(solver, name)) for name in (file.functions() if names is None else names)}
+    return {name: said for name, said in found.items() if said}
+
+
+def refusal(*args, **words):
+    """The first thing that the validator says against a file, or None."""
+    return next(iter(refusals(*args, **words).values()), None)
 
 
 def differing(right, wrong, include, target):

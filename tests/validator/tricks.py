@@ -52,3 +52,13 @@ TRICKS = [
     (INFLOW, 'if (high_before < low_before)', 'if ((int16_t)high_before < (int16_t)low_before)', 'a conversion that C leaves to the compiler'),
     (INFLOW, '-(int64_t)~x - 1', '-(int64_t)(~x + 1u)', 'overflow at the least number'),
 ]
+
+# Wrong edits of the file that has all others in it: (text, wrong text, whether in its header, what it does), the first behind the part of HOURS.
+JOINED = [
+    ('t6 < k', 't6 <= k', False, 'an operator'),
+    ('.starts = t9.starts', '.starts = t9.total', False, 'a member'),
+    ('uint64_t k)', 'uint64_t k_)', False, 'a parameter that is read as another'),
+    ('#include <string.h>', '#include <string.h>\n#define starts total', False, 'a macro'),
+    ('#define KAGUTIN_PUMPS 8', '#define KAGUTIN_PUMPS 8\n#define starts total', True, 'a macro of another part'),
+    ('uint64_t figure;', 'uint32_t figure;', True, 'a member of a header'),
+]
