@@ -3,7 +3,20 @@ in another way. (file, text, wrong text, what it does.) The validator must refus
 
 HOURS, GAUGES, INFLOW, ALARMS = ('dist/kagutin_hours.c', 'dist/kagutin_gauges.c', 'dist/kagutin_inflow.c', 'dist/kagutin_alarms.c')
 TURN = 'static inline uint64_t base_codec__numbers__each_byte(struct slice_u8 s, uint64_t at, uint64_t k)\n{\n'
-BEGIN = 'static inline uint64_t unit_hours_book__late('
+# Parts of unit_hours__kagutin_pump_hours: up to the array's first use, and its uses.
+CALLED = '''    struct call_ask__Reply t8;
+    struct unit_hours_book__Pump t9;
+
+    if (7u < pump) {
+        return (struct unit_hours__Hours){.code = 14u, .starts = 0u, .seconds = 0u};
+    }
+'''
+LENT = '''    t8 = kagutin__kagutin_fetch(log, area, state, newest, {}, writer, 16u + pump);
+    if (t8.code != 0u) {{
+        return (struct unit_hours__Hours){{.code = t8.code, .starts = 0u, .seconds = 0u}};
+    }}
+    t9 = unit_hours_book__read((struct slice_u8){{{}, 64u}});
+'''
 
 TRICKS = [
     # types
@@ -15,17 +28,14 @@ TRICKS = [
     (HOURS, 'figure < UINT64_C(0x100000000)', 'figure <= ~0ul', 'a mask as wide as a long: all figures pass where it has 64 bits'),
     (HOURS, '.code = 0u, .due = t9.services, .left = t9.left', '.left = t9.left, t9.services', 'a member that follows the last one: dropped'),
     # what a block or a pointer lives for
-    (HOURS, '''    memset(&t7, 0u, sizeof t7);
-    t8 = kagutin__kagutin_fetch(log, area, state, newest, (struct slice_mut_u8){t7.at, 64u}, writer, 16u + pump);
-''', '''    struct slice_mut_u8 lent;
-    {
+    (HOURS, '    struct array_u8_64 t7;\n' + CALLED + '    memset(&t7, 0u, sizeof t7);\n' + LENT.format('(struct slice_mut_u8){t7.at, 64u}', 't7.at'),
+     '    struct slice_mut_u8 lent;\n' + CALLED + '''    {
         struct array_u8_64 t7;
+
         memset(&t7, 0u, sizeof t7);
         lent = (struct slice_mut_u8){t7.at, 64u};
     }
-    t8 = kagutin__kagutin_fetch(log, area, state, newest, lent, writer, 16u + pump);
-    memset(&t7, 0u, sizeof t7);
-''', 'an array that is gone when it is used'),
+''' + LENT.format('lent', 'lent.ptr'), 'an array that is gone when it is used'),
     (HOURS, '    struct array_u8_64 t7;\n', '    static struct array_u8_64 t7;\n', 'memory shared by all callers'),
     (HOURS, 's.ptr[(size_t)t5];', '*(s.ptr + (size_t)t5 + 1u - 1u);', 'a pointer behind the block on the way'),
     # attributes and pragmas
