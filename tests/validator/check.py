@@ -19,7 +19,7 @@ import sys
 import tempfile
 import time
 
-from subjects import HERE, ROOT, TARGETS, Failed, generate, machine_code, refusal, refusals, refused_somewhere, same_behaviour, text_of, write
+from subjects import ROOT, TARGETS, Failed, generate, machine_code, refusal, refusals, refused_somewhere, same_behaviour, text_of, write
 
 from equivalent import EQUIVALENT  # noqa: E402
 from faults import FAULTS  # noqa: E402
@@ -169,7 +169,7 @@ KINDS = {'random': (random_program, 'random programs with wrong edits'), 'dist':
 
 def tasks(quick, fresh):
     """(kind, arguments). The gate has fixed ones; the long form has more, and random programs of a new seed."""
-    seeds, mutants = ([1, 2, 3], 8) if quick else ([932512, *range(1, 21), *range(fresh, fresh + 10)], 20)
+    seeds, mutants = ([1, 2, 3], 8) if quick else ([932512, *range(1, 13), *range(fresh, fresh + 8)], 15)
     return [('random', [seed, mutants]) for seed in seeds] + [('dist', [k]) for k in range(3 if quick else 30)] \
         + [('trick', [k]) for k in range(len(TRICKS))] + [('joined', [k]) for k in range(len(JOINED))] \
         + [('fault', [k]) for k in range(0, len(FAULTS), 6 if quick else 1)]

@@ -31,6 +31,8 @@ def statement_dropped(rng, lines, begin, end):
 
 
 def statements_swapped(rng, lines, begin, end):
+    if end - begin < 2:
+        return None
     n = rng.randrange(begin, end - 1)
     alike = all(re.fullmatch(r' +(?!return|uint|struct|bool|const|break|continue).*;', line) for line in lines[n:n + 2])
     same = alike and len(lines[n]) - len(lines[n].lstrip()) == len(lines[n + 1]) - len(lines[n + 1].lstrip())

@@ -1,7 +1,7 @@
 """Wrong edits of dist/ that compile and look as if they meant the same: each leaves to a reader of C, or to one compiler, what another takes
 in another way. (file, text, wrong text, what it does.) The validator must refuse each."""
 
-HOURS, GAUGES, INFLOW, ALARMS = ('dist/kagutin_hours.c', 'dist/kagutin_gauges.c', 'dist/kagutin_inflow.c', 'dist/kagutin_alarms.c')
+HOURS, GAUGES, INFLOW = 'dist/kagutin_hours.c', 'dist/kagutin_gauges.c', 'dist/kagutin_inflow.c'
 TURN = 'static inline uint64_t base_codec__numbers__each_byte(struct slice_u8 s, uint64_t at, uint64_t k)\n{\n'
 # Parts of unit_hours__kagutin_pump_hours: up to the array's first use, and its uses.
 CALLED = '''    struct call_ask__Reply t8;
