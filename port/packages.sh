@@ -1,15 +1,9 @@
 #!/bin/sh
-<<<<<<< HEAD
-# Installs what the builds for other machines and other compilers need. Nothing calls it by itself. packages.sh --list names them.
-set -eu
-
-packages="gcc libc6-dev clang make python3 valgrind
-=======
 # Installs what the builds for other machines and other compilers need, and cvc5 for make validate SOLVER=cvc5. Nothing calls it by itself.
+# packages.sh --list names them.
 set -eu
 
-packages="gcc clang make python3 valgrind cvc5
->>>>>>> d5f62b3b (Validator: the joined file held to its parts; wrong edits of dist explained or refused; validate-check goes on where it stopped)
+packages="gcc libc6-dev clang make python3 valgrind cvc5
     gcc-arm-none-eabi libnewlib-arm-none-eabi qemu-system-arm
     qemu-user gcc-arm-linux-gnueabihf gcc-aarch64-linux-gnu gcc-riscv64-linux-gnu gcc-s390x-linux-gnu
     libc6-dev-armhf-cross libc6-dev-arm64-cross libc6-dev-riscv64-cross libc6-dev-s390x-cross"
