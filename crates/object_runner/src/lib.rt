@@ -12,16 +12,16 @@ ghost use lib.ListN.{length, drop};
 ghost use Rattle.model.specs.Bytes.{part, same};
 ghost use Rattle.object_runner.specs.Next.{cursor, recordAction, nextAction};
 
-// How far a batch has been handed out: its records before index `at`; the first words of all groups below `headed`; and, of the record at `at`, how many
-// of its steps (`stage`), where it takes more than one.
+// How far a batch has been handed out: its records before index `at`; the first words of all groups below `headed`; and, of the record at `at`,
+// how many of its steps (`stage`), where it takes more than one.
 pub struct Cursor {
     pub at: u64,
     pub headed: u64,
     pub stage: u64,
 }
 
-// What to do next. `kind`: 0 all is done, 1 write, 2 fence, 3 refused, with nothing done. A write: `size` bytes at `offset` of `area` (0 the log, 1 the
-// homes), which lie in `source` (0 the batch, 1 the log copy) from index `from` on. Then the cursor to ask with when it has been carried out.
+// What to do next. `kind`: 0 all is done, 1 write, 2 fence, 3 refused, with nothing done. A write: `size` bytes at `offset` of `area` (0 the log,
+// 1 the homes), which lie in `source` (0 the batch, 1 the log copy) from index `from` on. Then the cursor to ask with when it has been carried out.
 #[repr(C)]
 pub struct Action {
     pub kind: u64,
@@ -70,8 +70,8 @@ fn record_action(batch: &[u8], words: bool, groups: u64, homes: u64, next: u64, 
     bare(3, c)
 }
 
-// The next action of a batch. `landing` is what the medium keeps whole (0 words of 8 bytes, 1 blocks of 64), `next` the number of the next group that has
-// not been submitted. Whatever is asked: a batch that is none, or a cursor beyond it, is refused.
+// The next action of a batch. `landing` is what the medium keeps whole (0 words of 8 bytes, 1 blocks of 64), `next` the number of the next group that
+// has not been submitted. Whatever is asked: a batch that is none, or a cursor beyond it, is refused.
 #[no_mangle]
 pub extern "C" fn kagutin_next_action(
     batch: &[u8],

@@ -4,7 +4,8 @@ use crate::Cursor;
 ghost use mathlib.Core.Path.{_≡_};
 ghost use Prim.Native.Nat.{_+_, _^_, _≤_, _<_};
 ghost use lib.ListN.{length, drop};
-ghost use Rattle.object_runner.specs.Next.{bare, write, parts, groupAction, homeAction, wiping, wholeHeader, wipeAction, headerAction, due, dueAction, fenceAction};
+ghost use Rattle.object_runner.specs.Next.{bare, write, parts, groupAction, homeAction};
+ghost use Rattle.object_runner.specs.Next.{wiping, wholeHeader, wipeAction, headerAction, due, dueAction, fenceAction};
 
 // An action without a write.
 pub fn bare(kind: u64, c: Cursor) -> Action
