@@ -107,7 +107,7 @@ extern "C" {
 
 /*
  * Answers. A call asks its questions in the order 1 to 5, 19, 20, 6 to 8, 17, 18, 21, 10, 9. 11 to 16, 24 and 25
- * are given by what stands above the store: kagutin_bands.h, kagutin_hours.h, kagutin_alarms.h.
+ * are given by what stands above the store: kagutin_bands.h, kagutin_hours.h, kagutin_alarms.h. [S-78]
  */
 enum kagutin_answer {
     KAGUTIN_DONE = 0,
@@ -510,7 +510,7 @@ enum kgt_landing { KGT_LANDS_WORDS, KGT_LANDS_BLOCKS };
  * fence  returns 0 when all earlier writes are in lasting memory. If it fails,
  *        any of them may be.
  *
- * docs/DRIVERS.md says why this is enough, and what to do on other media.
+ * docs/DRIVERS.md says why this is enough, and what to do on other media. [S-77]
  */
 struct kgt_driver {
     void *context;
@@ -544,7 +544,7 @@ struct kgt_driver {
 #define KGT_FORMAT_SIZE(groups, homes)                                                                                           \
     (KGT_BYTES(KAGUTIN_GW_SIZE) * (groups) + KGT_BYTES(KAGUTIN_HW_SIZE) * (homes) + 2 * KAGUTIN_KW_SIZE + 3 * KAGUTIN_FN_SIZE)
 
-/* ---- answers beyond those of kagutin.h ---- */
+/* ---- answers beyond those of kagutin.h ---- [S-75] */
 
 enum kgt_answer {
     KGT_CLOSED = 64,        /* the store has not been opened */
@@ -557,7 +557,7 @@ enum kgt_answer {
 /* Any answer in words. */
 const char *kgt_answer_text(uint64_t code);
 
-/* KAGUTIN_VERSION as it was when the object was compiled. */
+/* KAGUTIN_VERSION as it was when the object was compiled. [S-79] */
 const char *kagutin_version(void);
 
 /* ---- replies ---- */
@@ -623,7 +623,7 @@ bool kgt_read_record(const uint8_t *batch, size_t size, size_t groups, size_t ho
  * fence, then all of it: so no torn wipe makes a damaged header whole.
  */
 #define KGT_HEADS 16
-#define KGT_BAD_BATCH (-1000) /* the error for a batch that cannot be read */
+#define KGT_BAD_BATCH (-1000) /* the error for a batch that cannot be read [S-82] */
 
 struct kgt_runner {
     struct kgt_driver driver;
@@ -666,7 +666,7 @@ struct kagutin {
  * Takes KGT_MEMORY_SIZE(groups, homes) bytes of memory or more, and a driver;
  * both stay lent to the store. Touches no lasting memory. Forgets an earlier
  * lock and earlier settings. Answer 1: a size is wrong, groups or homes are out of
- * range, or a function of the driver is null; every call then answers 67.
+ * range, or a function of the driver is null; every call then answers 67. [S-75]
  */
 struct kgt_reply kgt_init(struct kagutin *store, uint8_t *memory, size_t size, size_t groups, size_t homes,
                           struct kgt_driver driver);
@@ -682,7 +682,7 @@ struct kgt_reply kgt_set_lock(struct kagutin *store, int (*lock)(void *context),
  * KGT_ROOM_BY_MAINTAIN: writers' calls and sync never settle. In a full log they
  * answer 8, 17 or 18 at once and leave making room to one task that calls
  * kgt_sync and then kgt_maintain until nothing is left. That task alone needs
- * the stack of a settle. After kgt_init and before the tasks start. Answer 67.
+ * the stack of a settle. After kgt_init and before the tasks start. Answer 67. [S-76]
  */
 struct kgt_reply kgt_set_room(struct kagutin *store, enum kgt_room room);
 
@@ -708,7 +708,7 @@ struct kgt_reply kgt_format(struct kagutin *store, uint8_t *scratch, size_t size
  * Loads lasting memory and brings back the longest run of commits that
  * persisted; transactions open before are gone, as in a power cut. Needed
  * after init and after a failure. Answers 3 (no store there, one of another
- * shape or of an older format), 10 (worn out), 65, 66, 67.
+ * shape or of an older format), 10 (worn out), 65, 66, 67. [S-73]
  */
 struct kgt_opened kgt_open(struct kagutin *store);
 
@@ -723,7 +723,7 @@ struct kgt_opened kgt_open(struct kagutin *store);
  * transaction is too long for the log. The transaction stays open and as it
  * was. 19 and 20 come from the list of rights; kagutin_rights.h. 68 comes before
  * all others: a store of writer 0 to homes 8 to 11 where D is 12 or more, unless
- * kgt_allow_list_stores was called; the transaction goes on.
+ * kgt_allow_list_stores was called; the transaction goes on. [S-73]
  */
 struct kgt_reply kgt_begin(struct kagutin *store, uint64_t writer);
 struct kgt_reply kgt_store(struct kagutin *store, uint64_t writer, uint64_t home, const uint8_t *block);
@@ -743,7 +743,7 @@ struct kgt_reply kgt_reserve(struct kagutin *store, uint64_t writer, uint64_t pl
 /*
  * Flush, fence, confirm. Answer 18: the flush would pass over places that are
  * promised, and making room did not help; nothing is confirmed. Sync again when
- * a transaction that reserved places has ended. 10: worn out.
+ * a transaction that reserved places has ended. 10: worn out. [S-74]
  */
 struct kgt_mark kgt_sync(struct kagutin *store);
 
@@ -751,7 +751,7 @@ struct kgt_mark kgt_sync(struct kagutin *store);
  * Commit and sync in one. Done: the commit is durable. Refused with the commit's
  * answers, the transaction is as after a refused commit, and ticket is
  * KGT_NOT_TOLD. 18 with a ticket: committed, and durable once a later sync's
- * mark reaches it.
+ * mark reaches it. [S-74]
  */
 struct kgt_ticket kgt_commit_sync(struct kagutin *store, uint64_t writer);
 
@@ -761,7 +761,7 @@ struct kgt_ticket kgt_commit_sync(struct kagutin *store, uint64_t writer);
  * none is under way and something is to be settled, moves it on by one step,
  * and trims when it is over. 0: no bound, a whole settle. Go on while there is
  * more. Other calls may come between; a full log makes them finish the round,
- * unless kgt_set_room says otherwise. Answers 10, 64, 65, 66, 67.
+ * unless kgt_set_room says otherwise. Answers 10, 64, 65, 66, 67. [S-76]
  */
 struct kgt_progress kgt_maintain(struct kagutin *store, uint64_t most);
 
@@ -853,7 +853,7 @@ bool kgt_rights_may_read(const struct kgt_rights *list, uint64_t writer, uint64_
  * cut leaves a part of it. It is durable once kgt_sync's mark reaches the ticket.
  * Makes room in a full log as kgt_commit does. Answers 5 (fewer than 12 homes),
  * 6, 8 (no room for four entries), 10, 64, 65, 66, 67; but for 65 nothing has
- * changed then, and after 65 an opening tells.
+ * changed then, and after 65 an opening tells. [S-81]
  */
 struct kgt_ticket kgt_set_rights(struct kagutin *store, const struct kgt_rights *list);
 
@@ -1089,7 +1089,7 @@ struct kagutin_alarm kagutin_alarm_gravest(const uint8_t *log, size_t log_size, 
  * calls make room once and try again; with answer 8 holder is then the writer
  * that holds the log, and 10 means that the log is worn out. Answers 64 to 67
  * are the object's. Replies are read as kagutin_store.h says: unless a call is
- * done, its numbers are KGT_NOT_TOLD.
+ * done, its numbers are KGT_NOT_TOLD. [S-80]
  */
 #ifndef KAGUTIN_UNITS_H
 #define KAGUTIN_UNITS_H
@@ -1225,7 +1225,7 @@ void kgt_memory_cut(struct kgt_memory *memory, bool (*lands)(void *context, size
  * bytes stand twice in the place of 64 bytes that it has, at 0 and at 32, each
  * time followed by their complements. A write goes to the older copy; loading
  * takes the whole one with the higher start. A format wipes the older copy
- * first, so that a cut inside it leaves the store as it was, or none.
+ * first, so that a cut inside it leaves the store as it was, or none. [S-83]
  */
 #ifndef KAGUTIN_FRAM_H
 #define KAGUTIN_FRAM_H
@@ -1281,7 +1281,7 @@ struct kgt_driver kgt_fram_driver(struct kgt_fram *fram);
  * changed, the file is of no more use; close it, open it anew and open the
  * store on it again. What the failed sync has left in the cache is decided
  * then: opening writes the whole image back as it reads it, and syncs.
- * Functions that return false leave a message.
+ * Functions that return false leave a message. [S-83]
  */
 #ifndef KAGUTIN_FILE_H
 #define KAGUTIN_FILE_H

@@ -97,7 +97,7 @@ extern "C" {
 
 /*
  * Answers. A call asks its questions in the order 1 to 5, 19, 20, 6 to 8, 17, 18, 21, 10, 9. 11 to 16, 24 and 25
- * are given by what stands above the store: kagutin_bands.h, kagutin_hours.h, kagutin_alarms.h.
+ * are given by what stands above the store: kagutin_bands.h, kagutin_hours.h, kagutin_alarms.h. [S-78]
  */
 enum kagutin_answer {
     KAGUTIN_DONE = 0,

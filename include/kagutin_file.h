@@ -15,7 +15,7 @@
  * changed, the file is of no more use; close it, open it anew and open the
  * store on it again. What the failed sync has left in the cache is decided
  * then: opening writes the whole image back as it reads it, and syncs.
- * Functions that return false leave a message.
+ * Functions that return false leave a message. [S-83]
  */
 #ifndef KAGUTIN_FILE_H
 #define KAGUTIN_FILE_H

@@ -9,7 +9,7 @@
  * bytes stand twice in the place of 64 bytes that it has, at 0 and at 32, each
  * time followed by their complements. A write goes to the older copy; loading
  * takes the whole one with the higher start. A format wipes the older copy
- * first, so that a cut inside it leaves the store as it was, or none.
+ * first, so that a cut inside it leaves the store as it was, or none. [S-83]
  */
 #ifndef KAGUTIN_FRAM_H
 #define KAGUTIN_FRAM_H

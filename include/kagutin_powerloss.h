@@ -12,7 +12,7 @@
  * On a PC the driver stands on a medium that can be cut, kagutin_sim.h or one of
  * yours (struct kgt_medium): kgt_powerloss_run. On a board a relay cuts the
  * power, and the kit goes on after each start with what it wrote down (struct
- * kgt_relay): kgt_powerloss_on_board. Plain C99, no heap.
+ * kgt_relay): kgt_powerloss_on_board. Plain C99, no heap. [S-86]
  */
 #ifndef KAGUTIN_POWERLOSS_H
 #define KAGUTIN_POWERLOSS_H

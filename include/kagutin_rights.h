@@ -70,7 +70,7 @@ bool kgt_rights_may_read(const struct kgt_rights *list, uint64_t writer, uint64_
  * cut leaves a part of it. It is durable once kgt_sync's mark reaches the ticket.
  * Makes room in a full log as kgt_commit does. Answers 5 (fewer than 12 homes),
  * 6, 8 (no room for four entries), 10, 64, 65, 66, 67; but for 65 nothing has
- * changed then, and after 65 an opening tells.
+ * changed then, and after 65 an opening tells. [S-81]
  */
 struct kgt_ticket kgt_set_rights(struct kagutin *store, const struct kgt_rights *list);
 

@@ -23,7 +23,7 @@
 extern "C" {
 #endif
 
-#define KAGUTIN_SEALED_SIZE 58 /* bytes of a sealed block that are the station's */
+#define KAGUTIN_SEALED_SIZE 58 /* bytes of a sealed block that are the station's [S-84] */
 
 enum kagutin_seal_state {
     KAGUTIN_SEAL_WHOLE, /* sealed, and as it was */

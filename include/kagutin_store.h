@@ -80,7 +80,7 @@ enum kgt_landing { KGT_LANDS_WORDS, KGT_LANDS_BLOCKS };
  * fence  returns 0 when all earlier writes are in lasting memory. If it fails,
  *        any of them may be.
  *
- * docs/DRIVERS.md says why this is enough, and what to do on other media.
+ * docs/DRIVERS.md says why this is enough, and what to do on other media. [S-77]
  */
 struct kgt_driver {
     void *context;
@@ -114,7 +114,7 @@ struct kgt_driver {
 #define KGT_FORMAT_SIZE(groups, homes)                                                                                           \
     (KGT_BYTES(KAGUTIN_GW_SIZE) * (groups) + KGT_BYTES(KAGUTIN_HW_SIZE) * (homes) + 2 * KAGUTIN_KW_SIZE + 3 * KAGUTIN_FN_SIZE)
 
-/* ---- answers beyond those of kagutin.h ---- */
+/* ---- answers beyond those of kagutin.h ---- [S-75] */
 
 enum kgt_answer {
     KGT_CLOSED = 64,        /* the store has not been opened */
@@ -127,7 +127,7 @@ enum kgt_answer {
 /* Any answer in words. */
 const char *kgt_answer_text(uint64_t code);
 
-/* KAGUTIN_VERSION as it was when the object was compiled. */
+/* KAGUTIN_VERSION as it was when the object was compiled. [S-79] */
 const char *kagutin_version(void);
 
 /* ---- replies ---- */
@@ -193,7 +193,7 @@ bool kgt_read_record(const uint8_t *batch, size_t size, size_t groups, size_t ho
  * fence, then all of it: so no torn wipe makes a damaged header whole.
  */
 #define KGT_HEADS 16
-#define KGT_BAD_BATCH (-1000) /* the error for a batch that cannot be read */
+#define KGT_BAD_BATCH (-1000) /* the error for a batch that cannot be read [S-82] */
 
 struct kgt_runner {
     struct kgt_driver driver;
@@ -236,7 +236,7 @@ struct kagutin {
  * Takes KGT_MEMORY_SIZE(groups, homes) bytes of memory or more, and a driver;
  * both stay lent to the store. Touches no lasting memory. Forgets an earlier
  * lock and earlier settings. Answer 1: a size is wrong, groups or homes are out of
- * range, or a function of the driver is null; every call then answers 67.
+ * range, or a function of the driver is null; every call then answers 67. [S-75]
  */
 struct kgt_reply kgt_init(struct kagutin *store, uint8_t *memory, size_t size, size_t groups, size_t homes,
                           struct kgt_driver driver);
@@ -252,7 +252,7 @@ struct kgt_reply kgt_set_lock(struct kagutin *store, int (*lock)(void *context),
  * KGT_ROOM_BY_MAINTAIN: writers' calls and sync never settle. In a full log they
  * answer 8, 17 or 18 at once and leave making room to one task that calls
  * kgt_sync and then kgt_maintain until nothing is left. That task alone needs
- * the stack of a settle. After kgt_init and before the tasks start. Answer 67.
+ * the stack of a settle. After kgt_init and before the tasks start. Answer 67. [S-76]
  */
 struct kgt_reply kgt_set_room(struct kagutin *store, enum kgt_room room);
 
@@ -278,7 +278,7 @@ struct kgt_reply kgt_format(struct kagutin *store, uint8_t *scratch, size_t size
  * Loads lasting memory and brings back the longest run of commits that
  * persisted; transactions open before are gone, as in a power cut. Needed
  * after init and after a failure. Answers 3 (no store there, one of another
- * shape or of an older format), 10 (worn out), 65, 66, 67.
+ * shape or of an older format), 10 (worn out), 65, 66, 67. [S-73]
  */
 struct kgt_opened kgt_open(struct kagutin *store);
 
@@ -293,7 +293,7 @@ struct kgt_opened kgt_open(struct kagutin *store);
  * transaction is too long for the log. The transaction stays open and as it
  * was. 19 and 20 come from the list of rights; kagutin_rights.h. 68 comes before
  * all others: a store of writer 0 to homes 8 to 11 where D is 12 or more, unless
- * kgt_allow_list_stores was called; the transaction goes on.
+ * kgt_allow_list_stores was called; the transaction goes on. [S-73]
  */
 struct kgt_reply kgt_begin(struct kagutin *store, uint64_t writer);
 struct kgt_reply kgt_store(struct kagutin *store, uint64_t writer, uint64_t home, const uint8_t *block);
@@ -313,7 +313,7 @@ struct kgt_reply kgt_reserve(struct kagutin *store, uint64_t writer, uint64_t pl
 /*
  * Flush, fence, confirm. Answer 18: the flush would pass over places that are
  * promised, and making room did not help; nothing is confirmed. Sync again when
- * a transaction that reserved places has ended. 10: worn out.
+ * a transaction that reserved places has ended. 10: worn out. [S-74]
  */
 struct kgt_mark kgt_sync(struct kagutin *store);
 
@@ -321,7 +321,7 @@ struct kgt_mark kgt_sync(struct kagutin *store);
  * Commit and sync in one. Done: the commit is durable. Refused with the commit's
  * answers, the transaction is as after a refused commit, and ticket is
  * KGT_NOT_TOLD. 18 with a ticket: committed, and durable once a later sync's
- * mark reaches it.
+ * mark reaches it. [S-74]
  */
 struct kgt_ticket kgt_commit_sync(struct kagutin *store, uint64_t writer);
 
@@ -331,7 +331,7 @@ struct kgt_ticket kgt_commit_sync(struct kagutin *store, uint64_t writer);
  * none is under way and something is to be settled, moves it on by one step,
  * and trims when it is over. 0: no bound, a whole settle. Go on while there is
  * more. Other calls may come between; a full log makes them finish the round,
- * unless kgt_set_room says otherwise. Answers 10, 64, 65, 66, 67.
+ * unless kgt_set_room says otherwise. Answers 10, 64, 65, 66, 67. [S-76]
  */
 struct kgt_progress kgt_maintain(struct kagutin *store, uint64_t most);
 

@@ -8,7 +8,7 @@
  * calls make room once and try again; with answer 8 holder is then the writer
  * that holds the log, and 10 means that the log is worn out. Answers 64 to 67
  * are the object's. Replies are read as kagutin_store.h says: unless a call is
- * done, its numbers are KGT_NOT_TOLD.
+ * done, its numbers are KGT_NOT_TOLD. [S-80]
  */
 #ifndef KAGUTIN_UNITS_H
 #define KAGUTIN_UNITS_H

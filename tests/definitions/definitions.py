@@ -9,6 +9,7 @@ usage: definitions.py COUNT [SEED]      (COUNT cases; one in five is of a call o
 
 G is drawn from 4 to 7. Without a seed each run draws a new one; it is printed first, so that a run can be repeated.
 """
+# Clauses: [S-5, S-11, S-12, S-13, S-14, S-17, S-18, S-19, S-22, S-28, S-29, S-31, S-36]
 import collections
 import json
 import pathlib

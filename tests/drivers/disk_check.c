@@ -7,6 +7,7 @@
  * array: pwrite, fdatasync and msync are this program's own. Arguments: a
  * folder for scratch files, reopenings.
  */
+/* Clauses: [S-77] */
 #define _DEFAULT_SOURCE 1
 #define _POSIX_C_SOURCE 200809L
 

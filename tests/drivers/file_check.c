@@ -3,6 +3,7 @@
  * locks, files that fail, that shrink and that are
  * full. Argument: a folder for scratch files.
  */
+/* Clauses: [S-57, S-77, S-83] */
 #define _DEFAULT_SOURCE 1
 #define _POSIX_C_SOURCE 200809L
 

@@ -5,6 +5,7 @@
  * no store could be opened before, none comes back. Argument: every so many
  * kinds of damage (1: all).
  */
+/* Clauses: [S-22, S-23, S-27] */
 #include <stdio.h>
 #include <stdlib.h>
 #include <string.h>

@@ -3,6 +3,7 @@
  * single byte that it takes, at work and inside a format of a chip that was
  * used. Argument: every so many bytes (1: all).
  */
+/* Clauses: [S-57, S-77, S-83] */
 #include <stdio.h>
 #include <stdlib.h>
 #include <string.h>

@@ -3,6 +3,7 @@
  * image is opened and held against the book. Arguments: image, kills, seed.
  * The image is written in one half of the rounds and mapped in the other.
  */
+/* Clauses: [S-54, S-55] */
 #define _DEFAULT_SOURCE 1
 #define _POSIX_C_SOURCE 200809L
 

@@ -7,6 +7,7 @@
  * it: cache (shows writes that lasting memory does not have) or late (lets them
  * arrive after it).
  */
+/* Clauses: [S-75, S-77] */
 #include <stdio.h>
 #include <stdlib.h>
 #include <string.h>

@@ -2,6 +2,7 @@
 """Builds of dist/ with KAGUTIN_CHECK_BUFFERS: every call of every header is lent every pair of its buffers overlapped, and each pointer as
 null, and must answer 63 with zeros and touch nothing; buffers side by side it must take. Run from the root; needs a C compiler and no prover.
 """
+# Clauses: [S-78]
 import ctypes
 import glob
 import os

@@ -1,5 +1,6 @@
 #!/bin/sh
 # Tests of dist/kagutin_all.c and its header: all-in-one-check.sh FOLDER (run by make all-in-one-check from the root).
+# Clauses: [S-79]
 set -u
 made=$1
 . tests/common/helpers.sh

@@ -1,6 +1,7 @@
 #!/bin/sh
 # Tests of the comparison of gauges from C: gauges-check.sh FOLDER-OF-THE-PROGRAMS (run by make c-check from the root).
 # Prints one line per test; the last line counts them. Status 1 if one failed.
+# Clauses: [S-71]
 set -u
 out=$1
 san=$out/sanitize

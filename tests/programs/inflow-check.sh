@@ -1,6 +1,7 @@
 #!/bin/sh
 # Tests of the inflow from C: inflow-check.sh FOLDER-OF-THE-PROGRAMS (run by make c-check from the root).
 # Prints one line per test; the last line counts them. Status 1 if one failed.
+# Clauses: [S-72]
 set -u
 out=$1
 san=$out/sanitize

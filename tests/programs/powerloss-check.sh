@@ -1,6 +1,7 @@
 #!/bin/sh
 # Tests of the power-loss kit: powerloss-check.sh FOLDER-OF-THE-PROGRAMS (run by make powerloss-check from the root; LIB is the library).
 # Prints one line per test; the last line counts them. Status 1 if one failed.
+# Clauses: [S-86]
 set -u
 out=$1
 san=$out/sanitize

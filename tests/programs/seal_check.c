@@ -1,4 +1,5 @@
 /* Sealed blocks: the checksum, every flipped bit and pair of bits, and a home of an image. Argument: an image to make, with a sealed home 5. */
+/* Clauses: [S-84] */
 #include <stdio.h>
 #include <stdlib.h>
 #include <string.h>

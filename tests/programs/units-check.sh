@@ -1,6 +1,7 @@
 #!/bin/sh
 # Tests of depth bands, pump hours and alarms from C: units-check.sh FOLDER-OF-THE-PROGRAMS (run by make units-check from the root).
 # Prints one line per test; the last line counts them. Status 1 if one failed.
+# Clauses: [S-64, S-65, S-66, S-67, S-68, S-69, S-70]
 set -u
 out=$1
 san=$out/sanitize

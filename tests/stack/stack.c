@@ -2,6 +2,7 @@
  * Deepest stack of each call in bytes, on a painted stack, with a full log and with a damaged one that takes two passes: in a small log, whose calls
  * stay below 6 KiB whatever the number of homes, and in the largest one, whose calls stay below 32 KiB. Status 1 above these.
  */
+/* Clauses: [S-9] */
 #include <stdio.h>
 #include <stdlib.h>
 #include <string.h>

@@ -4,6 +4,7 @@
  * changed, neither the lent memory nor what lasts; every call takes the lock
  * once and gives it back.
  */
+/* Clauses: [S-75] */
 #include <stdio.h>
 #include <stdlib.h>
 #include <string.h>

@@ -1,4 +1,5 @@
 /* The store object used wrongly: calls before init or after a refused one, a format that is refused, half a lock; and who makes room. */
+/* Clauses: [S-75, S-78] */
 #include <stdio.h>
 #include <stdlib.h>
 #include <string.h>

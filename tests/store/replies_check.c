@@ -5,6 +5,7 @@
  * is so: above all, a commit that "mark >= ticket" calls durable is there after
  * a cut that loses everything else.
  */
+/* Clauses: [S-74] */
 #include <limits.h>
 #include <stdio.h>
 #include <stdlib.h>

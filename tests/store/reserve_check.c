@@ -2,6 +2,7 @@
  * Places promised beforehand, on the store object: what others leave alone, what
  * is refused, what making room does about it, and that an opening forgets them.
  */
+/* Clauses: [S-43, S-44] */
 #include <stdio.h>
 #include <stdlib.h>
 

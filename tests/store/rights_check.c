@@ -1,4 +1,5 @@
 /* The list of rights: its bytes, its ranges, and the object under it, over cuts and a full log. */
+/* Clauses: [S-58, S-59, S-60, S-75, S-81] */
 #include <stdio.h>
 #include <stdlib.h>
 #include <string.h>

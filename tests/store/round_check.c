@@ -1,4 +1,5 @@
 /* The store object settles in small steps: bounds, calls between the steps, a log that fills, power that goes inside a round. */
+/* Clauses: [S-40, S-41, S-76] */
 #include <stdio.h>
 #include <stdlib.h>
 #include <string.h>

@@ -4,6 +4,7 @@
  * call in turn, a full log. Arguments: every so many bytes (1: all), rounds of
  * words, and of blocks.
  */
+/* Clauses: [S-54, S-57, S-73, S-82] */
 #include <stdio.h>
 #include <stdlib.h>
 #include <string.h>

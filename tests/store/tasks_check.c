@@ -5,6 +5,7 @@
  * full log; writer 0 changes the list of rights, and a tenth thread never sees
  * two lists mixed. Then power is cut, and every pair must be whole.
  */
+/* Clauses: [S-73] */
 #define _POSIX_C_SOURCE 200809L
 
 #include <pthread.h>

@@ -70,7 +70,7 @@ unfoldable pub fateOn : ℕ → List Fate → ℕ → Fate
 fateOn base [] p = passed
 fateOn base (f ∷ fs) p = cond (eqb p (base + length fs)) f (fateOn base fs p)
 
--- the class of a position from 7 × start to below 7 × (start + G)
+-- the class of a position from 7 × start to below 7 × (start + G) [S-45]
 unfoldable pub classAt : Store → List Fate → ℕ → Class
 classAt s fs p = cond (leb (nextOf s) p) free (classOf (fateOn (7 * firstGroup s) fs p))
 
@@ -137,7 +137,7 @@ pub record Accounted (s : Store) (fs : List Fate) : Type 0 where
 abbrev pub AllIdle : Store → Type 0
 AllIdle s = (v : ℕ) → v < 8 → s .book .tasks v ≡ idle
 
--- the store after the three calls
+-- the store after the three calls [S-46]
 unfoldable pub drained : World → Store → List ℕ → List ℕ → List ℕ → Store
 drained w s first second third =
     let flushed : World = step w (call (flush first)) in
@@ -159,6 +159,7 @@ pub record LongEnough (w : World) (s : Store) (first second third : List ℕ) : 
   pub forTrim :
       trimBytes (follow (follow s w (call (flush first))) (step w (call (flush first))) (call (settle second))) ≤ length third
 
+-- [S-46]
 abbrev pub Drains : World → Store → Type 0
 Drains w s =
     AllIdle s → s .round ≡ 0 → (first second third : List ℕ) → LongEnough w s first second third → firstGroup s + book.flush (s .book) .rows ≤ maxStart →
@@ -178,6 +179,7 @@ AccountedThroughout w s fs [] = w .ready ≡ true → PlacesTold w s fs
 AccountedThroughout w s fs (e ∷ es) =
     (w .ready ≡ true → PlacesTold w s fs) × AccountedThroughout (step w e) (follow s w e) (enterEvent s w e fs) es
 
+-- [S-45]
 abbrev pub PlacesAccounted : Type 0
 PlacesAccounted =
     (groups homes : ℕ) (f : Formatting groups homes) (es : List Event) → AllAllowed (afterFormat f) es →

@@ -51,6 +51,7 @@ pub record RoundGoes (v : World) (k : ℕ) (cs : List Call) : Type 0 where
       → ends v (settle other) .code ≡ 0 → h < v .homes
       → homeAt (ends (after (step v (call beginRound)) (calls cs)) (stepRound k batch) .area) h ≡ homeAt (ends v (settle other) .area) h
 
+-- [S-42]
 abbrev pub RoundsEnd : Type 0
 RoundsEnd =
     (groups homes : ℕ) (f : Formatting groups homes) (before : List Event) (k : ℕ) (cs : List Call) →

@@ -86,7 +86,7 @@ promisedTo promises (suc n) = promisedTo promises n + promises n
 unfoldable pub freeLeft : Store → ℕ
 freeLeft s = placesLeft s - promisedTo (s .promises) 8
 
--- "its first n entries, each using one up, never meet answer 8"; "Other entries meet 8 when only promised places are left."
+-- "its first n entries, each using one up, never meet answer 8"; "Other entries meet 8 when only promised places are left." [S-32]
 unfoldable pub hasRoom : Store → ℕ → Bool
 hasRoom s writer = leb 1 (s .promises writer) || ltb (promisedTo (s .promises) 8) (placesLeft s)
 
@@ -145,7 +145,7 @@ mayStart s start =
 unfoldable pub nextStart : Store → ℕ
 nextStart s = largest (mayStart s) (s .start) (s .settled / 7 - s .start)
 
--- the list of rights: "A changed list counts from its commit", for every writer
+-- the list of rights: "A changed list counts from its commit", for every writer [S-60]
 unfoldable pub listOf : Store → List ℕ
 listOf s = part (book.homesAfter (s .homes) (s .book .commits)) (64 * listHome) 256
 
@@ -220,7 +220,7 @@ replyService s (reads writer home block) =
 
 -- An opening is done if the strip has 1,024 bytes and that of the newest positions 8 a home, start + G is at most 2^47, and the batch holds 72 bytes,
 -- 516 for each group and 68 for each home that it brings back.
--- Its figure is the number of the run's commits that the header in lasting memory has not trimmed.
+-- Its figure is the number of the run's commits that the header in lasting memory has not trimmed. [S-50]
 unfoldable pub reply : Store → Call → Reply
 reply s (opening state newest batch) =
     let size : ℕ = 68 * manyHomes (s .homes) (s .back) + (72 + 516 * s .groups) in
@@ -380,6 +380,7 @@ AnswersThroughout w s [] = foundInMemory (s .groups) (s .homes) (w .memory) ≡ 
 AnswersThroughout w s (e ∷ es) =
     (foundInMemory (s .groups) (s .homes) (w .memory) ≡ s .back) × AnswersAt w s e × AnswersThroughout (step w e) (follow s w e) es
 
+-- [S-32, S-41, S-47, S-49, S-50, S-58, S-59, S-60]
 abbrev pub Answers : Type 0
 Answers =
     (groups homes : ℕ) (f : Formatting groups homes) (es : List Event) → AllAllowed (afterFormat f) es →

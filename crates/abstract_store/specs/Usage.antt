@@ -68,7 +68,7 @@ unfoldable pub usageIf : ℕ → Given → Usage
 usageIf zero g = usageOf g
 usageIf (suc k) g = usageRefused (suc k)
 
--- the call puts questions 1 and 2, and changes nothing
+-- the call puts questions 1 and 2, and changes nothing [S-45]
 unfoldable pub usageCall : Given → Usage
 usageCall g = usageIf (askState g 0) g
 
@@ -96,6 +96,7 @@ UsageThroughout w s fs [] = w .ready ≡ true → Usages w s fs
 UsageThroughout w s fs (e ∷ es) =
     (w .ready ≡ true → Usages w s fs) × UsageThroughout (step w e) (follow s w e) (enterEvent s w e fs) es
 
+-- [S-45]
 abbrev pub UsageTold : Type 0
 UsageTold =
     (groups homes : ℕ) (f : Formatting groups homes) (es : List Event) → AllAllowed (afterFormat f) es →

@@ -113,11 +113,14 @@ transactAnswer g size =
 
 -- The calls
 
+-- [S-62]
 unfoldable pub fetchCall : Given → Outcome
 fetchCall g = outcome g (fetchAnswer g) (fetchEffect g)
 
+-- [S-62]
 unfoldable pub reviseCall : Given → Outcome
 reviseCall g = outcome g (reviseAnswer g) (fetchEffect g)
 
+-- [S-62]
 unfoldable pub transactCall : Given → Outcome
 transactCall g = let e : Effect = transactEffect g in outcome g (transactAnswer g (sizeOf e)) e

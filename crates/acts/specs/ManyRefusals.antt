@@ -3,5 +3,6 @@ use mathlib.Core.List.{[], _∷_}
 use Rattle.model.specs.Refusals.{EachDoneOrUntouched}
 use Rattle.acts.specs.Many.{fetchCall, reviseCall, transactCall}
 
+-- [S-8]
 abbrev pub ManyRefusals : Type 0
 ManyRefusals = EachDoneOrUntouched (fetchCall ∷ reviseCall ∷ transactCall ∷ [])

@@ -66,7 +66,7 @@ replyTransact s writer home blocks batch =
     let n : ℕ = manyBlocks blocks in
     told (askBlocks s writer home blocks (ask (mayStoreEach s writer home n) 19 (askEntries s writer n batch))) (nextOf s + n) (transactBytes s n)
 
--- the three calls at a moment answer what the abstract store says
+-- the three calls at a moment answer what the abstract store says [S-50]
 pub record ManyAnswer (w : World) (s : Store) (writer home : ℕ) (blocks batch : List ℕ) : Type 0 where
   pub fetch : replyOf (fetchEnds w writer home blocks) ≡ replyFetch s writer home blocks
   pub revise : replyOf (reviseEnds w writer home blocks) ≡ replyRevise s writer home blocks

@@ -105,7 +105,7 @@ expandAll w [] = []
 expandAll w (a ∷ more) = expand w a ++ expandAll (act w a) more
 
 -- A history of acts leaves the world that the events it stands for leave, and these meet the premises: what holds of every history of events holds of
--- them.
+-- them. [S-62]
 abbrev pub ActsExpand : Type 0
 ActsExpand =
     (groups homes : ℕ) (f : Formatting groups homes) (acts : List Act) → AllActsAllowed (afterFormat f) acts →
@@ -149,7 +149,7 @@ labelsFrom w labels (a ∷ more) = labelsFrom (act w a) (relabel (act w a) label
 unfoldable pub labels : World → List Act → List Label
 labels w acts = labelsFrom w [] acts
 
--- the blocks of the last unit at a home, or others where there is none
+-- the blocks of the last unit at a home, or others where there is none [S-63]
 unfoldable pub lastUnit : ℕ → List ℕ → List Label → List ℕ
 lastUnit home blocks [] = blocks
 lastUnit home blocks (other ∷ ls) = lastUnit home blocks ls
@@ -212,7 +212,7 @@ pub record UnitKept (home n : ℕ) (w : World) (ls : List Label) : Type 0 where
       reviseEnds w writer home blocks .code ≡ 0 →
       reviseEnds w writer home blocks .block ≡ lastUnit home (zeros (64 * n)) ls
 
--- at the end of every history from a done format on, and so at every moment of it
+-- at the end of every history from a done format on, and so at every moment of it [S-63]
 abbrev pub UnitsKept : Type 0
 UnitsKept =
     (home n groups homes : ℕ) → 1 ≤ n → home + n ≤ homes → (f : Formatting groups homes) (acts : List Act) →

@@ -38,5 +38,6 @@ accepted first second output lines = acceptable first && (acceptable second && l
 unfoldable pub answer : List ℕ → List ℕ → List ℕ → List Line → Outcome
 answer first second output lines = cond (accepted first second output lines) (done lines output) (refused output)
 
+-- [S-71]
 unfoldable pub compareGauges : List ℕ → List ℕ → List ℕ → ℕ → Outcome
 compareGauges first second output tolerance = answer first second output (report tolerance (readings first) (readings second))

@@ -88,7 +88,7 @@ pub record Refused (first second output : List ℕ) (tolerance : ℕ) : Type 0 w
   pub onlySecond : compareGauges first second output tolerance .onlySecond ≡ 0
   pub untouched : compareGauges first second output tolerance .output ≡ output
 
--- for bytes of any contents and length: done with such a report if what is asked holds, else 22
+-- for bytes of any contents and length: done with such a report if what is asked holds, else 22 [S-71]
 pub record Guarantee (first second output : List ℕ) (tolerance : ℕ) : Type 0 where
   pub done :
       Asked first second output →

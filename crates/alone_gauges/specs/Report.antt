@@ -39,7 +39,7 @@ gather f (suc n) = gather f n ++ f n
 unfoldable pub minutes : ℕ
 minutes = 65536
 
--- "Every minute in either is reported once, rising"
+-- "Every minute in either is reported once, rising" [S-71]
 unfoldable pub report : ℕ → List Reading → List Reading → List Line
 report tolerance xs ys = gather (lineAt tolerance xs ys) minutes
 

@@ -30,7 +30,7 @@ fn refused() -> Comparison
     }
 }
 
-// Reports every minute of either list once, rising, as agreeing, differing or in one list only.
+// Reports every minute of either list once, rising, as agreeing, differing or in one list only. [S-71]
 #[no_mangle]
 pub extern "C" fn kagutin_compare_gauges(
     first: &[u8],

@@ -43,7 +43,7 @@ pub record Typed (g : Given) : Type 0 where
   pub after : g .highAfter < 2 ^ 16
   pub pumped : g .highPumped < 2 ^ 32
 
--- for all numbers: done if what is asked holds, else 23; the results fit 64 bits in two's complement
+-- for all numbers: done if what is asked holds, else 23; the results fit 64 bits in two's complement [S-72]
 pub record Guarantee (g : Given) : Type 0 where
   pub done : Asked g → Done g
   pub refused : (Asked g → ⊥) → Refused g

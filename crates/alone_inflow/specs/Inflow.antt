@@ -22,7 +22,7 @@ abbrev pub given : ℕ → ℕ → ℕ → ℕ → ℕ → ℕ → ℕ → Given
 given area lowBefore highBefore lowAfter highAfter lowPumped highPumped =
     record { area = area; lowBefore = lowBefore; highBefore = highBefore; lowAfter = lowAfter; highAfter = highAfter; lowPumped = lowPumped; highPumped = highPumped }
 
--- the least: from the highest depth before to the lowest after; the most: the other way round
+-- the least: from the highest depth before to the lowest after; the most: the other way round [S-72]
 unfoldable pub least : Given → ℤ
 least g = inflow (g .area) (g .highBefore) (g .lowAfter) (g .lowPumped)
 
@@ -47,5 +47,6 @@ gives code low high = record { code = code; least = low; most = high }
 unfoldable pub refused : Outcome
 refused = gives 23 (pos 0) (pos 0)
 
+-- [S-72]
 unfoldable pub boundInflow : Given → Outcome
 boundInflow g = cond (accepted g) (gives 0 (least g) (most g)) refused

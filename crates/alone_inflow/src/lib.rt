@@ -32,7 +32,7 @@ fn inflow(area: u64, before: u64, after: u64, pumped: u64) -> i64
     gained as i64 - held as i64
 }
 
-// The least and the most inflow between two moments, from the depth range at each, the pit's area and the range of pumped volume.
+// The least and the most inflow between two moments, from the depth range at each, the pit's area and the range of pumped volume. [S-72]
 #[no_mangle]
 pub extern "C" fn kagutin_inflow(
     area: u64,

@@ -23,6 +23,7 @@ pub fn put_blank(log: &mut [u8], slot: usize, n: u64, turn: u64)
 }
 
 // Writes an entry's tag and its block at index `k` of the group in a ring slot: the block gets the turn bit, and the tag the bit that it displaces.
+// [S-14]
 pub fn put_entry(log: &mut [u8], slot: usize, turn: u64, k: usize, word: u64, block: &[u8])
     requires { ⌜ (64 + 512 * slot + 512 ≤ length (now log)) × (turn < 2) × (k < 7) × (word < 2 ^ 57) × (length (now block) ≡ 64) ⌝ }
     ensures { λ _. ⌜ now (log .exit) ≡ putEntry (now (log .entry)) slot turn k word (now (block .entry)) ⌝ }
@@ -34,7 +35,7 @@ pub fn put_entry(log: &mut [u8], slot: usize, turn: u64, k: usize, word: u64, bl
 }
 
 // Writes an entry's tag and block at the next position, whose group has the turn `turn`, and a blank group first where the position is a
-// group's first.
+// group's first. [S-11]
 pub fn enter(log: &mut [u8], slot: usize, turn: u64, st: State, word: u64, block: &[u8])
     requires { ⌜ (64 + 512 * slot + 512 ≤ length (now log)) × (turn ≡ turnOf (st .groups) (st .next)) × (turn < 2) × (st .filled < 7)
         × (word < 2 ^ 57) × (length (now block) ≡ 64) ⌝ }
@@ -48,6 +49,7 @@ pub fn enter(log: &mut [u8], slot: usize, turn: u64, st: State, word: u64, block
 }
 
 // Writes the block that the entry at index `k` of the group in a ring slot gives, with the displaced bit back in its place, from index `at` on.
+// [S-15]
 pub fn copy_entry(dst: &mut [u8], at: usize, log: &[u8], slot: usize, k: usize)
     requires { ⌜ (at + 64 ≤ length (now dst)) × (64 + 512 * slot + 512 ≤ length (now log)) × (k < 7) ⌝ }
     ensures { λ _. ⌜ now (dst .exit) ≡ puts (now (dst .entry)) at (blockOf (groupAt (now (log .entry)) slot) k) ⌝ }

@@ -9,7 +9,7 @@ ghost use Rattle.model.specs.Bytes.{puts, zeros};
 ghost use Rattle.model.specs.Layout.{header, groupAt, turnBlocks, homeAt};
 ghost use Rattle.model.specs.Batch.{GW, HW, KW, FN, recordBytes};
 
-// Appends the write of the group that the log holds in a ring slot.
+// Appends the write of the group that the log holds in a ring slot. [S-5]
 pub fn group_write(batch: &mut [u8], at: usize, slot: usize, log: &[u8]) -> usize
     requires { ⌜ (at + 516 ≤ length (now batch)) × (64 + 512 * slot + 512 ≤ length (now log)) ⌝ }
     ensures { λ r. ⌜ r ≡ at + 516 ⌝ }
@@ -22,7 +22,7 @@ pub fn group_write(batch: &mut [u8], at: usize, slot: usize, log: &[u8]) -> usiz
     at + 516
 }
 
-// Appends the write of the block that the data area holds in a home.
+// Appends the write of the block that the data area holds in a home. [S-5]
 pub fn home_write(batch: &mut [u8], at: usize, home: usize, area: &[u8]) -> usize
     requires { ⌜ (at + 68 ≤ length (now batch)) × (64 * home + 64 ≤ length (now area)) ⌝ }
     ensures { λ r. ⌜ r ≡ at + 68 ⌝ }
@@ -34,7 +34,7 @@ pub fn home_write(batch: &mut [u8], at: usize, home: usize, area: &[u8]) -> usiz
     at + 68
 }
 
-// Appends the write of the header with a start and the numbers of groups and homes.
+// Appends the write of the header with a start and the numbers of groups and homes. [S-5]
 pub fn header_write(batch: &mut [u8], at: usize, start: u64, groups: u64, homes: u64) -> usize
     requires { ⌜ at + 66 ≤ length (now batch) ⌝ }
     ensures { λ r. ⌜ r ≡ at + 66 ⌝ }
@@ -45,7 +45,7 @@ pub fn header_write(batch: &mut [u8], at: usize, start: u64, groups: u64, homes:
     at + 66
 }
 
-// Appends a fence.
+// Appends a fence. [S-5]
 pub fn fence(batch: &mut [u8], at: usize) -> usize
     requires { ⌜ at + 2 ≤ length (now batch) ⌝ }
     ensures { λ r. ⌜ r ≡ at + 2 ⌝ }

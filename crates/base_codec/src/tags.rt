@@ -5,7 +5,7 @@ ghost use mathlib.Core.Path.{_≡_};
 ghost use Prim.Native.Nat.{_^_, _<_};
 ghost use Rattle.model.specs.Tag.{entryWord, closingWord, withDisplaced, displaced, readTag, field};
 
-// The word of an entry that does not close its transaction.
+// The word of an entry that does not close its transaction. [S-12]
 pub fn entry_word(home: u64, back: u64) -> u64
     requires { ⌜ (home < 2 ^ 16) × (back < 2 ^ 13) ⌝ }
     ensures { λ r. ⌜ r ≡ entryWord home back ⌝ }
@@ -13,7 +13,7 @@ pub fn entry_word(home: u64, back: u64) -> u64
     1 | (home & 0xfff) << 2 | back << 14 | (home >> 12) << 53
 }
 
-// The word of the entry that commits a transaction of `count` entries, with the distance `link` back to the previous commit entry.
+// The word of the entry that commits a transaction of `count` entries, with the distance `link` back to the previous commit entry. [S-12]
 pub fn commit_word(home: u64, back: u64, link: u64, count: u64) -> u64
     requires { ⌜ (home < 2 ^ 16) × (back < 2 ^ 13) × (link < 2 ^ 13) × (count < 2 ^ 13) ⌝ }
     ensures { λ r. ⌜ r ≡ closingWord home back link count ⌝ }
@@ -43,7 +43,7 @@ pub fn tag_back(word: u64) -> u64
     (word >> 14) & 0x1fff
 }
 
-// What a word says at a position of a log that starts at position `base` and has `homes` homes.
+// What a word says at a position of a log that starts at position `base` and has `homes` homes. [S-13]
 pub fn read_tag(word: u64, position: u64, base: u64, homes: u64) -> Tag
     ensures { λ r. ⌜ r ≡ readTag word position base homes ⌝ }
 {

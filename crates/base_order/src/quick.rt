@@ -62,6 +62,7 @@ fn records_in_order(s: &[u8], st: State, low: u64, all: u64) -> bool
 }
 
 // Question 2 for a log of `groups` groups and `homes` homes: 0 if the strip is seen to be in order, else 2, which `whole_in_order` may still deny.
+// [S-48]
 pub fn quick_answer(s: &[u8], groups: u64, homes: u64) -> u64
     requires { ⌜ (length (now s) ≡ 1024) × (groups ≤ 1024) ⌝ }
     ensures { λ r. ⌜ (r ≡ 0 → true ≡ inOrder (now (s .entry)) groups homes) ⌝ }

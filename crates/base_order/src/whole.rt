@@ -109,7 +109,7 @@ fn rest_in_order(s: &[u8], st: State) -> bool
     writers_in_order(s, st)
 }
 
-// Question 2 for a log of `groups` groups and `homes` homes, whatever is promised and whether a round is under way.
+// Question 2 for a log of `groups` groups and `homes` homes, whatever is promised and whether a round is under way. [S-48]
 pub fn whole_in_order(s: &[u8], groups: u64, homes: u64) -> bool
     requires { ⌜ (length (now s) ≡ 1024) × (groups ≤ 1024) ⌝ }
     ensures { λ r. ⌜ r ≡ inOrder (now (s .entry)) groups homes ⌝ }

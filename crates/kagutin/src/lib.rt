@@ -8,7 +8,7 @@ ghost use Rattle.acts.specs.Many.{fetchCall, reviseCall, transactCall};
 ghost use Rattle.abstract_store.specs.Usage.{usageCall};
 ghost use Rattle.call_ask.specs.Lent.{lentAll, leavesAll, lent, leaves};
 
-// Writes an empty store: every group unused, every home zeros, then the header.
+// Writes an empty store: every group unused, every home zeros, then the header. [S-7, S-9, S-21, S-22]
 #[no_mangle]
 pub extern "C" fn kagutin_format(log: &mut [u8], area: &mut [u8], batch: &mut [u8]) -> Reply
     ensures { λ r. ⌜ leaves (r .code) (r .figure) (r .size) (now (log .exit)) (now (area .exit)) [] [] (now (batch .exit))
@@ -17,7 +17,7 @@ pub extern "C" fn kagutin_format(log: &mut [u8], area: &mut [u8], batch: &mut [u
     call_open::format(log, area, batch)
 }
 
-// Brings back what a power cut left: replays the committed transactions into the data copy and starts the log anew.
+// Brings back what a power cut left: replays the committed transactions into the data copy and starts the log anew. [S-7, S-9, S-24, S-26]
 #[no_mangle]
 pub extern "C" fn kagutin_open(
     log: &mut [u8],
@@ -34,7 +34,7 @@ pub extern "C" fn kagutin_open(
     call_open::reopen(log, area, state, newest, batch)
 }
 
-// Begins a transaction of a writer that has none open.
+// Begins a transaction of a writer that has none open. [S-7, S-9, S-28]
 #[no_mangle]
 pub extern "C" fn kagutin_begin(log: &[u8], area: &[u8], state: &mut [u8], writer: u64) -> Reply
     ensures { λ r. ⌜ leaves (r .code) (r .figure) (r .size) (now (log .entry)) (now (area .entry)) (now (state .exit)) [] []
@@ -43,7 +43,7 @@ pub extern "C" fn kagutin_begin(log: &[u8], area: &[u8], state: &mut [u8], write
     call_writer::begin(log, area, state, writer)
 }
 
-// Begins a transaction of a writer that has none open, and promises it `n` places: its first `n` entries find room.
+// Begins a transaction of a writer that has none open, and promises it `n` places: its first `n` entries find room. [S-7, S-9, S-43]
 #[no_mangle]
 pub extern "C" fn kagutin_reserve(
     log: &[u8],
@@ -58,7 +58,7 @@ pub extern "C" fn kagutin_reserve(
     call_writer::reserve(log, area, state, writer, n)
 }
 
-// Drops a writer's open transaction with the block that it holds, and gives back the places promised to it.
+// Drops a writer's open transaction with the block that it holds, and gives back the places promised to it. [S-7, S-9, S-28]
 #[no_mangle]
 pub extern "C" fn kagutin_abort(log: &[u8], area: &[u8], state: &mut [u8], writer: u64) -> Reply
     ensures { λ r. ⌜ leaves (r .code) (r .figure) (r .size) (now (log .entry)) (now (area .entry)) (now (state .exit)) [] []
@@ -67,7 +67,7 @@ pub extern "C" fn kagutin_abort(log: &[u8], area: &[u8], state: &mut [u8], write
     call_writer::abort(log, area, state, writer)
 }
 
-// Holds a block for a home in a writer's open transaction; a block held for another home is logged first.
+// Holds a block for a home in a writer's open transaction; a block held for another home is logged first. [S-7, S-9, S-29, S-30]
 #[no_mangle]
 pub extern "C" fn kagutin_store(
     log: &mut [u8],
@@ -86,7 +86,7 @@ pub extern "C" fn kagutin_store(
     call_store::store(log, area, state, block, batch, writer, home)
 }
 
-// Ends a writer's transaction: logs the held block as its closing entry, and returns the ticket.
+// Ends a writer's transaction: logs the held block as its closing entry, and returns the ticket. [S-7, S-9, S-31]
 #[no_mangle]
 pub extern "C" fn kagutin_commit(
     log: &mut [u8],
@@ -104,7 +104,7 @@ pub extern "C" fn kagutin_commit(
     call_commit::commit(log, area, state, newest, batch, writer)
 }
 
-// Submits the group that is being filled, and a fence.
+// Submits the group that is being filled, and a fence. [S-7, S-9, S-33]
 #[no_mangle]
 pub extern "C" fn kagutin_flush(
     log: &[u8],
@@ -119,7 +119,7 @@ pub extern "C" fn kagutin_flush(
     call_flush::flush(log, area, state, batch)
 }
 
-// Makes the fenced position the durable mark, and returns it.
+// Makes the fenced position the durable mark, and returns it. [S-7, S-9, S-34]
 #[no_mangle]
 pub extern "C" fn kagutin_confirm(log: &[u8], area: &[u8], state: &mut [u8]) -> Reply
     ensures { λ r. ⌜ leaves (r .code) (r .figure) (r .size) (now (log .entry)) (now (area .entry)) (now (state .exit)) [] []
@@ -128,7 +128,7 @@ pub extern "C" fn kagutin_confirm(log: &[u8], area: &[u8], state: &mut [u8]) -> 
     call_writer::confirm(log, area, state)
 }
 
-// Writes the homes of the commits below the fenced position, and a fence.
+// Writes the homes of the commits below the fenced position, and a fence. [S-7, S-9, S-38]
 #[no_mangle]
 pub extern "C" fn kagutin_settle(
     log: &[u8],
@@ -142,7 +142,7 @@ pub extern "C" fn kagutin_settle(
     call_settle::settle(log, area, state, batch)
 }
 
-// Begins a round of settling in small steps, which covers the commits below the fenced position of now.
+// Begins a round of settling in small steps, which covers the commits below the fenced position of now. [S-7, S-9, S-40]
 #[no_mangle]
 pub extern "C" fn kagutin_begin_round(log: &[u8], area: &[u8], state: &mut [u8]) -> Reply
     ensures { λ r. ⌜ leaves (r .code) (r .figure) (r .size) (now (log .entry)) (now (area .entry)) (now (state .exit)) [] []
@@ -151,7 +151,7 @@ pub extern "C" fn kagutin_begin_round(log: &[u8], area: &[u8], state: &mut [u8])
     call_settle::begin_round(log, area, state)
 }
 
-// Writes the next `homes` homes of the round under way; with the last of them a fence, and the round is over.
+// Writes the next `homes` homes of the round under way; with the last of them a fence, and the round is over. [S-7, S-9, S-40]
 #[no_mangle]
 pub extern "C" fn kagutin_step_round(
     log: &[u8],
@@ -166,7 +166,7 @@ pub extern "C" fn kagutin_step_round(
     call_settle::step_round(log, area, state, batch, homes)
 }
 
-// Moves the log's start up as far as no transaction lies across it.
+// Moves the log's start up as far as no transaction lies across it. [S-7, S-9, S-39]
 #[no_mangle]
 pub extern "C" fn kagutin_trim(
     log: &mut [u8],
@@ -183,7 +183,7 @@ pub extern "C" fn kagutin_trim(
     call_trim::trim(log, area, state, newest, batch)
 }
 
-// Reads the block of a home as a writer sees it.
+// Reads the block of a home as a writer sees it. [S-7, S-9, S-35, S-37]
 #[no_mangle]
 pub extern "C" fn kagutin_read(
     log: &[u8],
@@ -202,7 +202,7 @@ pub extern "C" fn kagutin_read(
     call_read::read(log, area, state, newest, block, writer, home)
 }
 
-// Reads the blocks of one to seven homes from `home` on, one behind the other, as a writer that may read them all sees them.
+// Reads the blocks of one to seven homes from `home` on, one behind the other, as a writer that may read them all sees them. [S-7, S-9, S-62]
 #[no_mangle]
 pub extern "C" fn kagutin_fetch(
     log: &[u8],
@@ -221,7 +221,7 @@ pub extern "C" fn kagutin_fetch(
     call_many_fetch::fetch(log, area, state, newest, blocks, writer, home)
 }
 
-// The same for a writer that is going to store what it makes of the blocks: it may store to the homes, too.
+// The same for a writer that is going to store what it makes of the blocks: it may store to the homes, too. [S-7, S-9, S-62]
 #[no_mangle]
 pub extern "C" fn kagutin_revise(
     log: &[u8],
@@ -241,6 +241,7 @@ pub extern "C" fn kagutin_revise(
 }
 
 // Begins a transaction of an idle writer, stores one to seven blocks for the homes from `home` on and commits them. The figure is the ticket.
+// [S-7, S-9, S-62]
 #[no_mangle]
 pub extern "C" fn kagutin_transact(
     log: &mut [u8],
@@ -260,7 +261,7 @@ pub extern "C" fn kagutin_transact(
     call_many::transact(log, area, state, newest, blocks, batch, writer, home)
 }
 
-// Tells how many places of the log are live, dead, free and promised, and which open transaction lies lowest in it.
+// Tells how many places of the log are live, dead, free and promised, and which open transaction lies lowest in it. [S-7, S-9, S-45]
 #[no_mangle]
 pub extern "C" fn kagutin_usage(log: &[u8], area: &[u8], state: &[u8]) -> Usage
     ensures { λ r. ⌜ r ≡ usageCall (lent (now (log .entry)) (now (area .entry)) (now (state .entry)) [] [] 0 0) ⌝ }

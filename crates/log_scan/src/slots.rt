@@ -19,7 +19,7 @@ fn short_slot(n: u32, groups: u32) -> RingSlot
     }
 }
 
-// The same for any group, as the first of a pass: a small machine divides numbers of 64 bits by a library call, and few logs get that far.
+// The same for any group, as the first of a pass: a small machine divides numbers of 64 bits by a library call, and few logs get that far. [S-20]
 pub fn first_slot(n: u64, groups: u64) -> RingSlot
     requires { ⌜ 0 < groups ⌝ }
     ensures { λ r. ⌜ SlotOf groups n r ⌝ }
@@ -35,7 +35,7 @@ pub fn first_slot(n: u64, groups: u64) -> RingSlot
     }
 }
 
-// Those of the group after: the turn changes where the slots begin again.
+// Those of the group after: the turn changes where the slots begin again. [S-20]
 pub fn next_slot(at: RingSlot, groups: u64) -> RingSlot
     requires { ⌜ (at .slot < groups) × (at .turn < 2) × (groups ≤ 1024) ⌝ }
     ensures { λ r. ⌜ (r .slot < groups) × ((n : ℕ) → SlotOf groups n at → SlotOf groups (n + 1) r) ⌝ }
@@ -53,7 +53,7 @@ pub fn next_slot(at: RingSlot, groups: u64) -> RingSlot
     }
 }
 
-// Those of the group before.
+// Those of the group before. [S-20]
 pub fn previous_slot(at: RingSlot, groups: u64) -> RingSlot
     requires { ⌜ (at .slot < groups) × (at .turn < 2) × (groups ≤ 1024) ⌝ }
     ensures { λ r. ⌜ (r .slot < groups) × ((n : ℕ) → 0 < n → SlotOf groups n at → SlotOf groups (n - 1) r) ⌝ }

@@ -26,6 +26,7 @@ headerWriteMark = 0x4b ∷ 0x57 ∷ []
 abbrev pub fenceMark : List ℕ
 fenceMark = 0x46 ∷ 0x4e ∷ []
 
+-- [S-5]
 unfoldable pub recordBytes : Record → List ℕ
 recordBytes (GW slot group) = groupWriteMark ++ (bytes 2 slot ++ group)
 recordBytes (HW home block) = homeWriteMark ++ (bytes 2 home ++ block)

@@ -104,13 +104,13 @@ unfoldable pub flush : Book → Book
 flush b = cond (eqb (b .filled) 0) b (submit b)
 
 -- "A commit is confirmed durable if a confirm done before the next cut returned its ticket or more."
--- A ticket of 0 is one that a crash has ended.
+-- A ticket of 0 is one that a crash has ended. [S-55]
 unfoldable pub owedBy : ℕ → List Commit → List Commit
 owedBy mark [] = []
 owedBy mark (c ∷ cs) =
     record { entries = c .entries; ticket = c .ticket; owed = c .owed || (leb 1 (c .ticket) && leb (c .ticket) mark) } ∷ owedBy mark cs
 
--- what an opening brings back
+-- what an opening brings back [S-55]
 unfoldable pub owedAll : List Commit → List Commit
 owedAll [] = []
 owedAll (c ∷ cs) = record { entries = c .entries; ticket = c .ticket; owed = true } ∷ owedAll cs
@@ -126,6 +126,7 @@ fateAt [] r k = false
 fateAt (f ∷ fs) zero k = f k
 fateAt (f ∷ fs) (suc r) k = fateAt fs r k
 
+-- [S-53]
 unfoldable pub survives : List (ℕ → Bool) → Landing → Bool
 survives fs (row r k) = fateAt fs r k
 survives fs persisted = true
@@ -134,7 +135,7 @@ unfoldable pub allSurvive : List (ℕ → Bool) → List Entry → Bool
 allSurvive fs [] = true
 allSurvive fs (e ∷ es) = survives fs (e .landing) && allSurvive fs es
 
--- the run: the surviving prefix of the commits
+-- the run: the surviving prefix of the commits [S-53]
 unfoldable pub run : List (ℕ → Bool) → List Commit → List Commit
 run fs [] = []
 run fs (c ∷ cs) = let more : List Commit = c ∷ run fs cs in cond (allSurvive fs (c .entries)) more []
@@ -148,6 +149,7 @@ unfoldable pub ended : List Commit → List Commit
 ended [] = []
 ended (c ∷ cs) = record { entries = persistedEntries (c .entries); ticket = 0; owed = c .owed } ∷ ended cs
 
+-- [S-53]
 unfoldable pub crash : Book → List (ℕ → Bool) → Book
 crash b fs = record { commits = ended (run fs (b .commits)); rows = 0; filled = 0; tasks = λ w. idle }
 
@@ -160,6 +162,7 @@ unfoldable pub writeCommits : List Commit → List ℕ → List ℕ
 writeCommits [] area = area
 writeCommits (c ∷ cs) area = writeCommits cs (writeEntries (c .entries) area)
 
+-- [S-54]
 unfoldable pub homesAfter : ℕ → List Commit → List ℕ
 homesAfter homes commits = writeCommits commits (zeros (64 * homes))
 

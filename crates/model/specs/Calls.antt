@@ -22,7 +22,7 @@ pub record Outcome : Type 0 where
   pub block : List ℕ
   pub batch : List ℕ
 
--- "A refusal returns its number, no other figure but zero, no train bytes, and all lent memory untouched."
+-- "A refusal returns its number, no other figure but zero, no train bytes, and all lent memory untouched." [S-8]
 unfoldable pub refused : Given → ℕ → Outcome
 refused g code =
     record {
@@ -37,7 +37,7 @@ refused g code =
       batch = g .batch;
     }
 
--- "Train bytes past the returned length stay."
+-- "Train bytes past the returned length stay." [S-9]
 unfoldable pub done : Given → Effect → Outcome
 done g e =
     record {
@@ -56,7 +56,7 @@ done g e =
 unfoldable pub sizeOf : Effect → ℕ
 sizeOf e = length (batchBytes (e .records))
 
--- an answer of 0 is done, every other one refuses
+-- an answer of 0 is done, every other one refuses [S-7]
 unfoldable pub outcome : Given → ℕ → Effect → Outcome
 outcome g zero e = done g e
 outcome g (suc k) e = refused g (suc k)

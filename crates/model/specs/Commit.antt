@@ -19,7 +19,7 @@ members log f base zero = []
 members log f base (suc n) = addIf (leb f (base + n) && belongs f (log (base + n))) (base + n) (members log f base n)
 
 -- "A closing entry is complete if, among positions from its first entry to itself, the entries with that same first position number exactly
--- its count." The closing entry stands at position base + n.
+-- its count." The closing entry stands at position base + n. [S-17]
 unfoldable pub complete : (ℕ → Tag) → ℕ → ℕ → ℕ → ℕ → Bool
 complete log base n f count = eqb (length (members log f base (suc n))) count
 
@@ -55,7 +55,7 @@ visit log base n (Entry h f) w = w
 visit log base n (Closing h f link count) w =
     decidedClosing (w .going && linked base (w .last) (base + n) link && complete log base n f count) (record { first = f; closing = base + n }) w
 
--- "Take present closing entries by rising position." The walk over the n positions from base on.
+-- "Take present closing entries by rising position." The walk over the n positions from base on. [S-18]
 unfoldable pub walk : (ℕ → Tag) → ℕ → ℕ → Walk
 walk log base zero = started
 walk log base (suc n) = visit log base n (log (base + n)) (walk log base n)
@@ -94,7 +94,7 @@ unfoldable pub orElse : Option ℕ → Option ℕ → Option ℕ
 orElse (some p) o = some p
 orElse none o = o
 
--- "newest committed by commit order": that of the last transaction that has one
+-- "newest committed by commit order": that of the last transaction that has one [S-19]
 unfoldable pub newest : (ℕ → Tag) → ℕ → List (List ℕ) → Option ℕ
 newest log home [] = none
 newest log home (t ∷ ts) = orElse (newest log home ts) (newestIn log home t)

@@ -26,7 +26,7 @@ unfoldable pub blocks : ℕ → List ℕ → ℕ → List Piece
 blocks offset content zero = []
 blocks offset content (suc n) = toLog offset (take 64 content) ∷ blocks (offset + 64) (drop 64 content) n
 
--- a group is its metadata and its seven data blocks
+-- a group is its metadata and its seven data blocks [S-52]
 unfoldable pub pieces : Record → List Piece
 pieces (GW slot group) = blocks (groupOffset slot) group 8
 pieces (HW home block) = toArea (64 * home) block ∷ []
@@ -72,7 +72,7 @@ persistChosen chosen i (r ∷ rs) m =
     let on : Memory = persistChosen chosen (i + many (pieces r)) rs (writeChosen chosen i (pieces r) m) in
     cond (isFence r) m on
 
--- the memory after `passed` fences of the records, and a choice of what comes before the next
+-- the memory after `passed` fences of the records, and a choice of what comes before the next [S-52]
 unfoldable pub persist : ℕ → (ℕ → Bool) → List Record → Memory → Memory
 persist passed chosen [] m = m
 persist zero chosen (r ∷ rs) m = persistChosen chosen 0 (r ∷ rs) m

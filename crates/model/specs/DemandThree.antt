@@ -11,7 +11,7 @@ use Rattle.model.specs.Book.{Commit, run, homesAfter}
 use Rattle.model.specs.History.{Call, opening, confirm, change, service, Event, call, crash, World, ends, rowFates, step, Always}
 
 -- "every opening that does not answer 1, 9 or 10 is done, and leaves a data copy equal byte for byte to the homes after the longest run of commits,
--- from the first on, whose entries had all landed, by 01's book." At a crash the book's list is cut to that run.
+-- from the first on, whose entries had all landed, by 01's book." At a crash the book's list is cut to that run. [S-54]
 pub record Opened (w : World) (o : Outcome) : Type 0 where
   pub answer : (o .code ≡ 0) ⊎ ((o .code ≡ 1) ⊎ ((o .code ≡ 9) ⊎ (o .code ≡ 10)))
   pub restored : o .code ≡ 0 → o .area ≡ homesAfter (w .homes) (w .book .commits)
@@ -24,7 +24,7 @@ abbrev pub NoneOwed : List Commit → Type 0
 NoneOwed [] = Unit {0}
 NoneOwed (c ∷ cs) = (c .owed ≡ false) × NoneOwed cs
 
--- "In that run is every commit confirmed durable before, and all that an earlier opening brought back"
+-- "In that run is every commit confirmed durable before, and all that an earlier opening brought back" [S-53, S-55]
 abbrev pub Crashed : World → ℕ → (ℕ → Bool) → Type 0
 Crashed w passed chosen = NoneOwed (lost (rowFates w passed chosen) (w .book .commits))
 
@@ -43,6 +43,6 @@ abbrev pub AllHold : World → List Event → Type 0
 AllHold w [] = Unit {0}
 AllHold w (e ∷ es) = Holds w e × AllHold (step w e) es
 
--- Demand 3, for every G and D, every done format and every list of events after it under the premises
+-- Demand 3, for every G and D, every done format and every list of events after it under the premises [S-4, S-52, S-54, S-55]
 abbrev pub Demand3 : Type 0
 Demand3 = Always AllHold

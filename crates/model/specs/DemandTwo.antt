@@ -27,7 +27,7 @@ unfoldable pub eachContents : (ℕ → Tag) → List ℕ → ℕ → List (List 
 eachContents tags log groups [] = []
 eachContents tags log groups (t ∷ ts) = contents tags log groups t ∷ eachContents tags log groups ts
 
--- what the commit rule finds in the log copy
+-- what the commit rule finds in the log copy [S-56]
 unfoldable pub foundIn : Given → List (List Held)
 foundIn g =
     eachContents (liveTags g) (g .log) (groups g)
@@ -43,7 +43,7 @@ untrimmed base [] = []
 untrimmed base (c ∷ cs) = cond (ltb base (c .ticket)) (heldEntries (c .entries) ∷ untrimmed base cs) (untrimmed base cs)
 
 -- "what the calls write reads back as the committed, untrimmed transactions and nothing else, in commit order"; "A read gives the writer's own
--- newest block, else the newest committed one."
+-- newest block, else the newest committed one." [S-17, S-18, S-19, S-51, S-56]
 pub record Live (w : World) : Type 0 where
   pub stateFits : inOrder (w .state) (groupsIn (length (w .log))) (w .homes) ≡ true
   pub readBack : foundIn (lent w [] [] 0 0) ≡ untrimmed (7 * stateOf (w .state) .start) (w .book .commits)
@@ -118,7 +118,7 @@ unfoldable pub mayStartAt : World → ℕ → Bool
 mayStartAt w start =
     not (anyAcross (firstRowGroup w) (7 * start) (w .book .commits)) && not (anyOpenBefore (firstRowGroup w) (7 * start) (w .book .tasks) 8)
 
--- the start that a trim leaves is the largest at most the settled position at which the log may start
+-- the start that a trim leaves is the largest at most the settled position at which the log may start [S-39]
 pub record Trimmed (w : World) (start : ℕ) : Type 0 where
   pub reached : mayStartAt w start ≡ true
   pub settled : 7 * start ≤ stateOf (w .state) .settled
@@ -129,6 +129,7 @@ pub record Trimmed (w : World) (start : ℕ) : Type 0 where
 unfoldable pub settledFor : State → ℕ → ℕ
 settledFor st home = cond (underWay st && ltb home (st .cursor)) (fixedIn st) (st .settled)
 
+-- [S-38, S-40]
 abbrev pub SettledHomes : ℕ → List ℕ → State → List Commit → Type 0
 SettledHomes homes area st commits = (h : ℕ) → h < homes → homeAt area h ≡ homeAt (homesAfter homes (closedBelow (settledFor st h) commits)) h
 
@@ -140,6 +141,7 @@ ServiceYields w (roundSteps homes batch) o = SettledHomes (w .homes) (o .area) (
 ServiceYields w (trims batch) o = Trimmed w (stateOf (o .state) .start)
 ServiceYields w (reads writer home block) o = o .block ≡ readBy (w .homes) (w .book) writer home
 
+-- [S-35]
 abbrev pub Yields : World → Call → Outcome → Type 0
 Yields w (opening state newest batch) o = Unit {0}
 Yields w confirm o = owedBy (o .figure) (w .book .commits) ≡ owedRows (rowsFenced w) (w .book .commits)
@@ -154,6 +156,6 @@ abbrev pub LiveThroughout : World → List Event → Type 0
 LiveThroughout w [] = w .ready ≡ true → Live w
 LiveThroughout w (e ∷ es) = (w .ready ≡ true → Live w) × YieldsAt w e × LiveThroughout (step w e) es
 
--- Demand 2, for the same histories
+-- Demand 2, for the same histories [S-56]
 abbrev pub Demand2 : Type 0
 Demand2 = Always LiveThroughout

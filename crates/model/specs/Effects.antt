@@ -44,10 +44,12 @@ unfoldable pub zeroHomes : ℕ → List Record
 zeroHomes zero = []
 zeroHomes (suc n) = zeroHomes n ++ (HW n (zeros 64) ∷ [])
 
+-- [S-23]
 unfoldable pub formatted : ℕ → ℕ → List Record
 formatted groups homes =
     KW (zeros 64) ∷ FN ∷ (blankWrites groups 0 groups ++ (zeroHomes homes ++ (FN ∷ KW (header 0 groups homes) ∷ FN ∷ [])))
 
+-- [S-22]
 unfoldable pub formatEffect : Given → Effect
 formatEffect g =
     record {
@@ -93,9 +95,11 @@ homeWrites area (h ∷ hs) = HW h (homeAt area h) ∷ homeWrites area hs
 unfoldable pub openTags : Given → ℕ → Tag
 openTags g = entryAt (g .log) (groups g) (homes g) (headerStart (g .log))
 
+-- [S-27]
 unfoldable pub openStart : Given → ℕ
 openStart g = headerStart (g .log) + groups g
 
+-- [S-24]
 unfoldable pub openEffect : Given → Effect
 openEffect g =
     let ts : List (List ℕ) = transactions (openTags g) (7 * headerStart (g .log)) (7 * groups g) in
@@ -115,13 +119,15 @@ openEffect g =
 
 -- Begin, abort: "one open transaction for each of writers 0 to 7. Abort drops the held block; logged entries stay without a closing."
 
+-- [S-28]
 unfoldable pub beginEffect : Given → Effect
 beginEffect g = newState g (setWriter (g .state) (g .writer) begun) 0
 
--- Reserve: "An idle writer may ask for n places; when granted, its transaction opens". "Commit and abort give unused ones back."
+-- Reserve: "An idle writer may ask for n places; when granted, its transaction opens". "Commit and abort give unused ones back." [S-43]
 unfoldable pub reserveEffect : Given → ℕ → Effect
 reserveEffect g n = newState g (setPromise (setWriter (g .state) (g .writer) begun) (g .writer) n) 0
 
+-- [S-28]
 unfoldable pub abortEffect : Given → Effect
 abortEffect g = newState g (setPromise (setWriter (g .state) (g .writer) idle) (g .writer) 0) 0
 
@@ -145,6 +151,7 @@ submitted true s st slot log =
     record { state = setFilled (setNext s (st .next + 1)) 0; log = log; records = GW slot (groupAt log slot) ∷ [] }
 submitted false s st slot log = record { state = setFilled s (st .filled + 1); log = log; records = [] }
 
+-- [S-30]
 unfoldable pub logged : List ℕ → List ℕ → ℕ → List ℕ → Logged
 logged s log word block =
     let st : State = stateOf s in
@@ -180,6 +187,7 @@ storeOther g r position =
       records = l .records;
     }
 
+-- [S-29]
 unfoldable pub storeEffect : Given → Effect
 storeEffect g =
     let r : Writer = writerOf (g .state) (g .writer) in
@@ -222,6 +230,7 @@ commitHeld g r position =
       records = l .records;
     }
 
+-- [S-31]
 unfoldable pub commitEffect : Given → Effect
 commitEffect g =
     let r : Writer = writerOf (g .state) (g .writer) in
@@ -254,6 +263,7 @@ flushNone g st =
       records = FN ∷ [];
     }
 
+-- [S-33]
 unfoldable pub flushEffect : Given → Effect
 flushEffect g =
     let st : State = stateOf (g .state) in
@@ -262,6 +272,7 @@ flushEffect g =
 
 -- Confirm: "the driver says all fences passed; the durable mark becomes F and is returned."
 
+-- [S-34]
 unfoldable pub confirmEffect : Given → Effect
 confirmEffect g = newState g (setDurable (g .state) (stateOf (g .state) .fenced)) (stateOf (g .state) .fenced)
 
@@ -269,6 +280,7 @@ confirmEffect g = newState g (setDurable (g .state) (stateOf (g .state) .fenced)
 -- FN; the data copy too. The settled position becomes the former F."
 -- (The rule takes closing entries by rising position, so what it finds below F does not hang on what lies above.)
 
+-- [S-38]
 unfoldable pub settleEffect : Given → Effect
 settleEffect g =
     let st : State = stateOf (g .state) in
@@ -288,6 +300,7 @@ settleEffect g =
 -- rising; the last step, the one after which no home remains (the first if none is touched), writes FN and only then raises the settled position
 -- to the F fixed."
 
+-- [S-40]
 unfoldable pub beginRoundEffect : Given → Effect
 beginRoundEffect g = newState g (setCursor (setRound (g .state) (stateOf (g .state) .fenced + 1)) 0) 0
 
@@ -309,7 +322,7 @@ restoredHomes log groups tags ts (h ∷ hs) area =
 unfoldable pub roundTransactions : Given → List (List ℕ)
 roundTransactions g = transactions (liveTags g) (liveBase g) (fixedIn (stateOf (g .state)) - liveBase g)
 
--- the homes that remain
+-- the homes that remain [S-42]
 unfoldable pub roundHomes : Given → List ℕ
 roundHomes g = touchedFrom (liveTags g) (roundTransactions g) (stateOf (g .state) .cursor) (homes g)
 
@@ -334,6 +347,7 @@ stepHomes g k due last =
       records = homeWrites area (take k due) ++ cond last (FN ∷ []) [];
     }
 
+-- [S-40]
 unfoldable pub stepRoundEffect : Given → ℕ → Effect
 stepRoundEffect g k = let due : List ℕ = roundHomes g in stepHomes g k due (leb (length due) k)
 
@@ -359,6 +373,7 @@ unfoldable pub largest : (ℕ → Bool) → ℕ → ℕ → ℕ
 largest may start zero = start
 largest may start (suc n) = let below : ℕ = largest may start n in cond (may (start + suc n)) (start + suc n) below
 
+-- [S-39]
 unfoldable pub trimStart : Given → ℕ
 trimStart g =
     let st : State = stateOf (g .state) in
@@ -380,6 +395,7 @@ trimTo g st start =
       records = KW (header start (groups g) (homes g)) ∷ FN ∷ [];
     }
 
+-- [S-39]
 unfoldable pub trimEffect : Given → ℕ → Effect
 trimEffect g start =
     let st : State = stateOf (g .state) in
@@ -410,16 +426,18 @@ ownElse g other =
     let logged : List ℕ = blockOr g (newestOwn g r) other in
     cond (holdsHome r (g .home)) (heldOf (g .state) (g .writer)) logged
 
--- the read of document 01; the claim that the newest positions change nothing names it
+-- the read of document 01; the claim that the newest positions change nothing names it [S-35]
 unfoldable pub visible : Given → List ℕ
 visible g = ownElse g (current g)
 
+-- [S-37]
 unfoldable pub keptPosition : Given → Option ℕ
 keptPosition g = let p : ℕ = keptFor (g .newest) (g .home) in cond (isThere g p) (some p) none
 
 unfoldable pub shown : Given → List ℕ
 shown g = blockOr g (keptPosition g) (homeAt (g .area) (g .home))
 
+-- [S-35]
 unfoldable pub readEffect : Given → Effect
 readEffect g =
     record {

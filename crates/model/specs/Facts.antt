@@ -40,7 +40,7 @@ headerWritten (HW home block ∷ rs) = headerWritten rs
 headerWritten (KW header ∷ rs) = true
 headerWritten (FN ∷ rs) = false
 
--- no record writes what a later one up to the next fence writes too
+-- no record writes what a later one up to the next fence writes too [S-6]
 unfoldable pub writtenOnce : List Record → Bool
 writtenOnce [] = true
 writtenOnce (GW slot group ∷ rs) = not (slotWritten slot rs) && writtenOnce rs
@@ -52,6 +52,7 @@ writtenOnce (FN ∷ rs) = writtenOnce rs
 abbrev pub FormatOnce : Type 0
 FormatOnce = (groups homes : ℕ) → writtenOnce (formatted groups homes) ≡ true
 
+-- [S-6]
 abbrev pub PendingOnce : Type 0
 PendingOnce = Always (λ w es. writtenOnce (after w es .pending) ≡ true)
 
@@ -60,12 +61,13 @@ PendingOnce = Always (λ w es. writtenOnce (after w es .pending) ≡ true)
 abbrev pub RowsWritten : Type 0
 RowsWritten = Always (λ w es. let v : World = after w es in v .book .rows ≡ groupWrites (v .pending) - groupsIn (length (v .memory .log)))
 
--- Format: "The copies hold the same." Whatever stood in memory and copies, its train leaves the empty store in both.
+-- Format: "The copies hold the same." Whatever stood in memory and copies, its train leaves the empty store in both. [S-23]
 pub record Emptied (groups homes : ℕ) (f : Formatting groups homes) : Type 0 where
   pub memory : afterFormat f ≡ emptyStore groups homes
   pub log : formatCall (f .given) .log ≡ afterFormat f .memory .log
   pub area : formatCall (f .given) .area ≡ afterFormat f .memory .area
 
+-- [S-23]
 abbrev pub FormatEmpties : Type 0
 FormatEmpties = (groups homes : ℕ) (f : Formatting groups homes) → Emptied groups homes f
 
@@ -74,6 +76,7 @@ FormatEmpties = (groups homes : ℕ) (f : Formatting groups homes) → Emptied g
 abbrev pub NeverOpens : Memory → Type 0
 NeverOpens m = (state newest batch : List ℕ) → length state ≡ stateBytes → length newest ≡ 8 * homesIn (length (m .area)) → openCall (loaded (unopened 0 m) state newest batch) .code ≡ 3
 
+-- [S-23]
 abbrev pub FormatCut : Type 0
 FormatCut =
     (groups homes : ℕ) (f : Formatting groups homes) (passed : ℕ) (chosen : ℕ → Bool) → let m : Memory = persist passed chosen (formatRecords f) (f .memory) in

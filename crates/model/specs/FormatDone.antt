@@ -21,9 +21,10 @@ pub record FormatAnswers (groups homes : ℕ) (g : Given) : Type 0 where
   pub size : formatCall g .code ≡ 0 → formatCall g .size ≡ 138 + 516 * groups + 68 * homes
   pub short : length (g .batch) < 138 + 516 * groups + 68 * homes → formatCall g .code ≡ 9
 
+-- [S-1, S-2, S-21]
 abbrev pub FormatDone : Type 0
 FormatDone = (groups homes : ℕ) (g : Given) → Right groups homes g → FormatAnswers groups homes g
 
--- other lengths: 1
+-- other lengths: 1 [S-3]
 abbrev pub FormatWrong : Type 0
 FormatWrong = (g : Given) → ((groups homes : ℕ) → Right groups homes g → ⊥) → formatCall g .code ≡ 1

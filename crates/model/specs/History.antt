@@ -215,7 +215,7 @@ isConfirm confirm = true
 isConfirm (change c) = false
 isConfirm (service c) = false
 
--- the world after a done call. The driver reads the records off the batch's bytes; "a fence is confirmed only when passed".
+-- the world after a done call. The driver reads the records off the batch's bytes; "a fence is confirmed only when passed". [S-4]
 unfoldable pub afterDone : World → Call → Outcome → World
 afterDone w c o =
     record {
@@ -280,7 +280,7 @@ after w [] = w
 after w (e ∷ es) = after (step w e) es
 
 -- The premises: "after the format or a cut, opening comes before any other call, until it is done"; "after a done one, none comes before the next
--- cut"; of the fences pending at a crash any number have passed, "at least all before a done confirm".
+-- cut"; of the fences pending at a crash any number have passed, "at least all before a done confirm". [S-52]
 abbrev pub Allowed : World → Event → Type 0
 Allowed w (call c) = isOpening c ≡ not (w .ready)
 Allowed w (crash passed chosen) = (w .passed ≤ passed) × (passed ≤ fences (w .pending))

@@ -32,9 +32,11 @@ maxHomes = 65535
 abbrev pub maxStart : ℕ
 maxStart = 2 ^ 47
 
+-- [S-2]
 unfoldable pub logLengthRight : ℕ → Bool
 logLengthRight n = eqb n (64 + 512 * groupsIn n) && leb minGroups (groupsIn n) && leb (groupsIn n) maxGroups
 
+-- [S-1]
 unfoldable pub dataLengthRight : ℕ → Bool
 dataLengthRight n = eqb n (64 * homesIn n) && leb 1 (homesIn n) && leb (homesIn n) maxHomes
 
@@ -87,13 +89,14 @@ unfoldable pub groupBlock : List ℕ → ℕ → List ℕ
 groupBlock group k = part group (blockOffset k) 64
 
 -- "A group is valid if the mark fits, its number belongs to that ring place, and start ≤ number < start + G. Otherwise it is a hole."
--- Whether the 512 bytes at ring slot n mod G are a valid group with number n; of the numbers of that slot only one is in the range.
+-- Whether the 512 bytes at ring slot n mod G are a valid group with number n; of the numbers of that slot only one is in the range. [S-10]
 unfoldable pub groupValid : List ℕ → ℕ → ℕ → ℕ → Bool
 groupValid group groups start n = same (part group 0 2) groupMark && eqb (groupNumber group) n && leb start n && ltb n (start + groups)
 
 -- turns
 -- "The top bit of each data block's last byte becomes a turn bit, equal to (group number ÷ G, rounded down) mod 2"
 
+-- [S-14]
 unfoldable pub turnOf : ℕ → ℕ → ℕ
 turnOf groups n = n / groups % 2
 
@@ -145,10 +148,11 @@ putEntry log slot turn k word block =
 
 -- positions: "Position of place k (0 to 6) in group n: 7 × n + k."
 
--- the ring slot and the index in the group of a position
+-- the ring slot and the index in the group of a position [S-10, S-20]
 unfoldable pub slotOf : ℕ → ℕ → ℕ
 slotOf groups position = position / 7 % groups
 
+-- [S-11]
 unfoldable pub indexOf : ℕ → ℕ
 indexOf position = position % 7
 
@@ -156,13 +160,13 @@ indexOf position = position % 7
 unfoldable pub wordThere : List ℕ → ℕ → ℕ → ℕ
 wordThere group turn k = cond (eqb (topBit (groupBlock group k)) turn) (groupTag group k) 0
 
--- what a group says at a position
+-- what a group says at a position [S-15]
 unfoldable pub entryIn : List ℕ → ℕ → ℕ → ℕ → ℕ → Tag
 entryIn group groups homes start position =
     let n : ℕ = position / 7 in
     cond (groupValid group groups start n) (readTag (wordThere group (turnOf groups n) (indexOf position)) position (7 * start) homes) Nothing
 
--- the block that an entry gives: its data block, with the displaced bit back in its place
+-- the block that an entry gives: its data block, with the displaced bit back in its place [S-15]
 unfoldable pub blockOf : List ℕ → ℕ → List ℕ
 blockOf group k = withTopBit (groupBlock group k) (displaced (groupTag group k))
 

@@ -35,10 +35,11 @@ nothingKept homes = replicate (8 * homes) 255
 unfoldable pub keepEntry : (ℕ → Tag) → ℕ → List ℕ → List ℕ
 keepEntry tags p newest = keep newest (homeOf (tags p)) p
 
+-- [S-36]
 unfoldable pub keepEntries : (ℕ → Tag) → List ℕ → List ℕ → List ℕ
 keepEntries tags ps newest = writeAll (keepEntry tags) ps newest
 
--- "trim makes those before the new start none": of the first n homes
+-- "trim makes those before the new start none": of the first n homes [S-36]
 unfoldable pub forget : List ℕ → ℕ → ℕ → List ℕ
 forget newest bound zero = newest
 forget newest bound (suc n) =

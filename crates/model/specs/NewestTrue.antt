@@ -31,5 +31,6 @@ abbrev pub NewestThroughout : World → List Event → Type 0
 NewestThroughout w [] = w .ready ≡ true → NewestTrue w
 NewestThroughout w (e ∷ es) = (w .ready ≡ true → NewestTrue w) × NewestThroughout (step w e) es
 
+-- [S-36]
 abbrev pub NewestKept : Type 0
 NewestKept = Always NewestThroughout

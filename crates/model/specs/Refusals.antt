@@ -36,5 +36,6 @@ abbrev pub everyCall : ℕ → List (Given → Outcome)
 everyCall n =
     formatCall ∷ openCall ∷ beginCall ∷ (λ g. reserveCall g n) ∷ abortCall ∷ storeCall ∷ commitCall ∷ flushCall ∷ confirmCall ∷ settleCall ∷ beginRoundCall ∷ (λ g. stepRoundCall g n) ∷ trimCall ∷ readCall ∷ []
 
+-- [S-8]
 abbrev pub Refusals : Type 0
 Refusals = (n : ℕ) → EachDoneOrUntouched (everyCall n)

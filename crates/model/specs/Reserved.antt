@@ -71,6 +71,7 @@ abbrev pub PromisedThroughout : World → (ℕ → ℕ) → List Event → Type 
 PromisedThroughout w granted [] = w .ready ≡ true → Promised w granted
 PromisedThroughout w granted (e ∷ es) = (w .ready ≡ true → Promised w granted) × PromisedThroughout (step w e) (grant granted w e) es
 
+-- [S-43, S-44]
 abbrev pub ReservedKept : Type 0
 ReservedKept = Always (λ w es. PromisedThroughout w none es)
 

@@ -77,6 +77,7 @@ keepList g = signIf (listMoved g) (readList g) (carryListed (homes g) (g .newest
 unfoldable pub ofList : ℕ → Bool
 ofList home = leb listHome home && ltb home (listHome + 4)
 
+-- [S-58]
 unfoldable pub isList : ℕ → List ℕ → Bool
 isList homes list = leb (listHome + 4) homes && not (same list (zeros 256))
 
@@ -84,14 +85,17 @@ isList homes list = leb (listHome + 4) homes && not (same list (zeros 256))
 unfoldable pub inRange : List ℕ → ℕ → ℕ → Bool
 inRange list at home = leb (number 2 list at) home && ltb home (number 2 list at + number 2 list (at + 2))
 
+-- [S-58]
 unfoldable pub inRanges : List ℕ → ℕ → ℕ → ℕ → Bool
 inRanges list at home zero = false
 inRanges list at home (suc n) = inRanges list at home n || inRange list (at + 4 * n) home
 
+-- [S-59]
 unfoldable pub mayStore : ℕ → List ℕ → ℕ → ℕ → Bool
 mayStore homes list writer home =
     cond (ofList home) (eqb writer 0) (not (isList homes list) || inRanges list (32 * writer) home 4)
 
+-- [S-59]
 unfoldable pub mayRead : ℕ → List ℕ → ℕ → ℕ → Bool
 mayRead homes list writer home = ofList home || (not (isList homes list) || inRanges list (32 * writer + 16) home 4)
 

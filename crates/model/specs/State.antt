@@ -15,6 +15,7 @@ stateBytes = 1024
 
 -- The struct `State` of the crate's source: the numbers of the strip but those of the writers.
 
+-- [S-51]
 unfoldable pub stateOf : List ℕ → State
 stateOf s =
     record {
@@ -211,13 +212,14 @@ freshNumbers groups homes start =
     (7 * start))
     (7 * start)
 
+-- [S-25]
 unfoldable pub freshState : ℕ → ℕ → ℕ → ℕ → List ℕ
 freshState groups homes start sign = setListSign (setListed (freshNumbers groups homes start) (replicate 32 255)) sign
 
 -- Question 2
 -- "start ≤ 2^47; start ≤ next group ≤ start + G; 0 to 6 places filled, none at start + G; 7 × start ≤ settled ≤ F ≤ 7 × next group; mark ≤ F;
 -- last closing none or from 7 × start to below the next position" (kept as position + 1, and up to 7 × start it is none); "question 2 also asks that
--- the fixed F lies from settled to F"
+-- the fixed F lies from settled to F" [S-48]
 unfoldable pub numbersInOrder : State → Bool
 numbersInOrder s =
     leb (s .start) maxStart && leb (s .start) (s .next) && leb (s .next) (s .start + s .groups) && leb (s .filled) 6
@@ -241,12 +243,12 @@ promiseInOrder r n = isOpen r || eqb n 0
 unfoldable pub writerAtInOrder : List ℕ → State → ℕ → Bool
 writerAtInOrder s st w = writerInOrder st (writerOf s w) && promiseInOrder (writerOf s w) (promiseOf s w)
 
--- the first n writers
+-- the first n writers [S-48]
 unfoldable pub writersInOrder : List ℕ → State → ℕ → Bool
 writersInOrder s st zero = true
 writersInOrder s st (suc n) = writersInOrder s st n && writerAtInOrder s st n
 
--- "Is the strip in order: G and D agree; .."
+-- "Is the strip in order: G and D agree; .." [S-48]
 unfoldable pub inOrder : List ℕ → ℕ → ℕ → Bool
 inOrder s groups homes =
     let st : State = stateOf s in

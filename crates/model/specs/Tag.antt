@@ -8,7 +8,7 @@ use lib.Dec.{eqb, leb}
 use Rattle.model.specs.declared.Tag.{Tag}
 use Rattle.model.specs.declared.Tag.the-variants.{Nothing, Entry, Closing}
 
--- the word of a tag; `closing` is 0 or 1
+-- the word of a tag; `closing` is 0 or 1 [S-12]
 unfoldable pub tagWord : ℕ → ℕ → ℕ → ℕ → ℕ → ℕ
 tagWord closing home back link count =
     1 + 2 * closing + 2 ^ 2 * (home % 2 ^ 12) + 2 ^ 14 * back + 2 ^ 27 * link + 2 ^ 40 * count + 2 ^ 53 * (home / 2 ^ 12)
@@ -55,14 +55,14 @@ readFields used closing above upper home back link count position base homes =
     (says (eqb upper 0) (Entry home (position - back)))
     (says (leb 1 count) (Closing home (position - back) link count))))))
 
--- the tag that a word reads as
+-- the tag that a word reads as [S-13]
 unfoldable pub readTag : ℕ → ℕ → ℕ → ℕ → Tag
 readTag word position base homes =
     readFields (field word 0 1) (field word 1 1) (field word 58 6) (field word 27 26) (homeField word) (field word 14 13) (field word 27 13)
     (field word 40 13) position base homes
 
 -- "Logs of smaller stations read as they did": how a word read while a home had 12 bits, the ones above bit 52 all zero. Only the law that
--- compares the two readers names it, for words without a displaced bit.
+-- compares the two readers names it, for words without a displaced bit. [S-16]
 unfoldable pub readSmallTag : ℕ → ℕ → ℕ → ℕ → Tag
 readSmallTag word position base homes =
     readFields (field word 0 1) (field word 1 1) (field word 53 11) (field word 27 26) (field word 2 12) (field word 14 13) (field word 27 13)

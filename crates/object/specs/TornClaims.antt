@@ -19,6 +19,7 @@ abbrev pub LiveTorn : World → List Tearing → Type 0
 LiveTorn w [] = w .ready ≡ true → Live w
 LiveTorn w (t ∷ ts) = (w .ready ≡ true → Live w) × TearingYields w t × LiveTorn (tears w t) ts
 
+-- [S-57]
 abbrev pub Demand2Torn : Type 0
 Demand2Torn =
     (groups homes : ℕ) (f : Formatting groups homes) (ts : List Tearing) → AllTearingsAllowed groups (afterFormat f) ts →
@@ -45,12 +46,13 @@ abbrev pub AnswersThroughTorn : World → Store → List Tearing → Type 0
 AnswersThroughTorn w s [] = FoundBack w s
 AnswersThroughTorn w s (t ∷ ts) = FoundBack w s × TearingAnswers w s t × AnswersThroughTorn (tears w t) (followTorn s w t) ts
 
+-- [S-57]
 abbrev pub AnswersTorn : Type 0
 AnswersTorn =
     (groups homes : ℕ) (f : Formatting groups homes) (ts : List Tearing) → AllTearingsAllowed groups (afterFormat f) ts →
     AnswersThroughTorn (afterFormat f) (newStore groups homes) ts
 
--- Isolation: what comes before the two histories is any history each, torn crashes included, that leaves stores alike
+-- Isolation: what comes before the two histories is any history each, torn crashes included, that leaves stores alike [S-57]
 abbrev pub IsolationTorn : Type 0
 IsolationTorn =
     (groups homes : ℕ) (f g : Formatting groups homes) (before other : List Tearing) (cs ds : List Call) (writer : ℕ) (hidden : ℕ → Bool) →

@@ -87,6 +87,7 @@ Fitting groups homes (HW home block ∷ rs) = ((home < homes) × (length block �
 Fitting groups homes (KW header ∷ rs) = (length header ≡ 64) × Fitting groups homes rs
 Fitting groups homes (FN ∷ rs) = Fitting groups homes rs
 
+-- [S-85]
 abbrev pub RunnerMoves : Type 0
 RunnerMoves =
     (l : Grain) (groups homes next headed : ℕ) (log : List ℕ) (waiting : List Motion) (rs : List Record) → 1 ≤ groups → groups ≤ 1024 → homes ≤ 65535 →

@@ -102,6 +102,7 @@ recordAction words groups homes next rest c =
     (cond (same (part rest 0 2) headerWriteMark) (headerAction words rest c)
     (cond (same (part rest 0 2) fenceMark) (fenceAction words groups next c) (bare refused c))))
 
+-- [S-85]
 unfoldable pub nextAction : ℕ → ℕ → ℕ → ℕ → List ℕ → Cursor → Action
 nextAction landing groups homes next batch c =
     cond (leb landing 1 && leb 1 groups && leb groups 1024 && leb (c .at) (length batch))

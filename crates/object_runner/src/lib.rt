@@ -71,7 +71,7 @@ fn record_action(batch: &[u8], words: bool, groups: u64, homes: u64, next: u64, 
 }
 
 // The next action of a batch. `landing` is what the medium keeps whole (0 words of 8 bytes, 1 blocks of 64), `next` the number of the next group that
-// has not been submitted. Whatever is asked: a batch that is none, or a cursor beyond it, is refused.
+// has not been submitted. Whatever is asked: a batch that is none, or a cursor beyond it, is refused. [S-85]
 #[no_mangle]
 pub extern "C" fn kagutin_next_action(
     batch: &[u8],

@@ -6,6 +6,7 @@ use mathlib.Core.List.{List}
 use lib.ListN.{length}
 use Rattle.model.specs.History.{Formatting, afterFormat, ends, opening}
 
+-- [S-27]
 abbrev pub FormatOpens : Type 0
 FormatOpens =
     (groups homes : ℕ) (f : Formatting groups homes) (state newest batch : List ℕ) → length state ≡ 1024 → length newest ≡ 8 * homes →

@@ -68,7 +68,7 @@ abbrev pub followedActs : Store → World → List Act → Store
 followedActs s w xs = followed s w (expandAll w xs)
 
 -- As `Isolation`, over histories with fetch, revise and transact, done and refused ones. A home is read at no time if the list lets the writer read it at no
--- moment of the events that the acts stand for.
+-- moment of the events that the acts stand for. [S-61]
 abbrev pub ActsIsolated : Type 0
 ActsIsolated =
     (groups homes : ℕ) (f g : Formatting groups homes) (before other xs ys : List Act) (writer : ℕ) (hidden : ℕ → Bool) →

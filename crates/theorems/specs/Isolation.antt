@@ -64,12 +64,12 @@ module _ (hidden : ℕ → Bool) where
     equal : {c : Call} → CallAlike c c
     stored : {writer home : ℕ} {a b batch : List ℕ} → hidden home ≡ true → length a ≡ length b → CallAlike (store writer home a batch) (store writer home b batch)
 
--- the abstract store after events
+-- the abstract store after events [S-61]
 unfoldable pub followed : Store → World → List Event → Store
 followed s w [] = s
 followed s w (e ∷ es) = followed (follow s w e) (step w e) es
 
--- "that a writer may at no time in them read": by the list committed at each moment, that after the last call included
+-- "that a writer may at no time in them read": by the list committed at each moment, that after the last call included [S-61]
 abbrev pub Denied : ℕ → (ℕ → Bool) → Store → Type 0
 Denied writer hidden s = (home : ℕ) → hidden home ≡ true → mayRead (s .homes) (listOf s) writer home ≡ false
 
@@ -90,7 +90,7 @@ ToldSameThroughout writer w v (c ∷ cs) (d ∷ ds) =
     ToldSame writer w v c d × ToldSameThroughout writer (step w (call c)) (step v (call d)) cs ds
 
 -- What comes before the two histories is any history each, cuts included, that leaves stores alike. No list need be asked for beside: while none is
--- committed, all may read every home, and nothing can be hidden.
+-- committed, all may read every home, and nothing can be hidden. [S-61]
 abbrev pub Isolation : Type 0
 Isolation =
     (groups homes : ℕ) (f g : Formatting groups homes) (before other : List Event) (cs ds : List Call) (writer : ℕ) (hidden : ℕ → Bool) →

@@ -7,6 +7,7 @@ use Rattle.model.specs.State.{stateOf, promiseOf}
 use Rattle.model.specs.History.{Event, World, Formatting, afterFormat, step, AllAllowed}
 use Rattle.abstract_store.specs.Store.{Store, newStore, nextGroup, follow}
 
+-- [S-51]
 pub record StateTold (w : World) (s : Store) : Type 0 where
   pub groups : stateOf (w .state) .groups ≡ s .groups
   pub homes : stateOf (w .state) .homes ≡ s .homes
@@ -25,6 +26,7 @@ abbrev pub StateThroughout : World → Store → List Event → Type 0
 StateThroughout w s [] = w .ready ≡ true → StateTold w s
 StateThroughout w s (e ∷ es) = (w .ready ≡ true → StateTold w s) × StateThroughout (step w e) (follow s w e) es
 
+-- [S-25, S-51]
 abbrev pub StateKept : Type 0
 StateKept =
     (groups homes : ℕ) (f : Formatting groups homes) (es : List Event) → AllAllowed (afterFormat f) es →

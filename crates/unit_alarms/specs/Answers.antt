@@ -50,7 +50,7 @@ pub record AlarmAnswers (w : World) (s : Store) (es : List Event) : Type 0 where
 
 -- At the end of every history of `AlarmsKept`, and so at every moment of it after a done opening. With too few homes for alarms, at every moment at which
 -- fetch, revise and transact answer by the store (`ActsAnswer`): events 4 or 5 after the class, whatever came before, and the gravest too if its own home is
--- none of them.
+-- none of them. [S-50]
 pub record AlarmsAnswer : Type 0 where
   pub kept :
       (groups homes : ℕ) → alarmHome + alarmHomes ≤ homes → (f : Formatting groups homes) (ss : List (Step Event)) →

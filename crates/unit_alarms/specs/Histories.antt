@@ -30,7 +30,7 @@ pub record AlarmsAt (w : World) (es : List Event) : Type 0 where
       Leaves w (stepped alarmHome alarmHomes judged heldWith w (offers writer e batch)) (eventCall (lentIn w batch) writer e)
 
 -- At the end of every history that begins with a done format, and so at every moment of it after a done opening: its steps are alarms' events, done or
--- refused, and any acts of the store that do not store to the six homes; a crash cuts the book's list to the run.
+-- refused, and any acts of the store that do not store to the six homes; a crash cuts the book's list to the run. [S-69]
 abbrev pub AlarmsKept : Type 0
 AlarmsKept =
     (groups homes : ℕ) → alarmHome + alarmHomes ≤ homes → (f : Formatting groups homes) (ss : List (Step Event)) →

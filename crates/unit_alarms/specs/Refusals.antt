@@ -23,5 +23,6 @@ pub record Refusals (l : Lent) (writer : ℕ) : Type 0 where
   pub arrival : (a : Alarm) → arriveCall l writer a .code ≢ 0 → Refusal l 0 (arriveCall l writer a)
   pub clearing : (identity : ℕ) → clearCall l writer identity .code ≢ 0 → Refusal l 0 (clearCall l writer identity)
 
+-- [S-70]
 abbrev pub RefusalsOnAlarms : Type 0
 RefusalsOnAlarms = (l : Lent) (writer : ℕ) → Refusals l writer

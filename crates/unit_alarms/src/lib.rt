@@ -18,7 +18,7 @@ pub struct Gravest {
     pub second: u64,
 }
 
-// An alarm arrives; the figure is the ticket of its commit.
+// An alarm arrives; the figure is the ticket of its commit. [S-70]
 #[no_mangle]
 pub extern "C" fn kagutin_alarm_arrive(
     log: &mut [u8],
@@ -49,7 +49,7 @@ pub extern "C" fn kagutin_alarm_arrive(
     unit_shared::finish(log, area, state, newest, &grown, batch, writer, HOME, code)
 }
 
-// An alarm clears; the figure is the ticket of its commit.
+// An alarm clears; the figure is the ticket of its commit. [S-70]
 #[no_mangle]
 pub extern "C" fn kagutin_alarm_clear(
     log: &mut [u8],
@@ -75,7 +75,7 @@ pub extern "C" fn kagutin_alarm_clear(
     unit_shared::finish(log, area, state, newest, &rest, batch, writer, HOME, code)
 }
 
-// The gravest open alarm, as it is kept in the first home.
+// The gravest open alarm, as it is kept in the first home. [S-69]
 #[no_mangle]
 pub extern "C" fn kagutin_alarm_gravest(
     log: &[u8],

@@ -11,7 +11,7 @@ pub data Event : Type 0 where
   arrival : Alarm → Event
   clearing : ℕ → Event
 
--- "24 class out of range, an arrival already open or a clearing not open; 25 48 open already, at an arrival"
+-- "24 class out of range, an arrival already open or a clearing not open; 25 48 open already, at an arrival" [S-70]
 unfoldable pub answer : List Alarm → Event → ℕ
 answer xs (arrival a) = cond (classKnown (a .class)) (cond (among (a .identity) xs) 24 (cond (ltb (length xs) 48) 0 25)) 24
 answer xs (clearing i) = cond (among i xs) 0 24

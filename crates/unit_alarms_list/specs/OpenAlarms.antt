@@ -29,7 +29,7 @@ unfoldable pub gravestFrom : Alarm → List Alarm → Alarm
 gravestFrom a [] = a
 gravestFrom a (b ∷ xs) = gravestFrom (graver a b) xs
 
--- "With none open the gravest is none, told as three zeros."
+-- "With none open the gravest is none, told as three zeros." [S-69]
 unfoldable pub gravest : List Alarm → Option Alarm
 gravest [] = none
 gravest (a ∷ xs) = some (gravestFrom a xs)

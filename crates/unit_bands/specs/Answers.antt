@@ -39,7 +39,7 @@ pub record TableAnswers (w : World) (s : Store) (ts : List (List ℕ)) : Type 0 
   pub lookups : (writer mm : ℕ) (batch : List ℕ) → lookUpCall (lentIn w batch) writer mm ≡ lookupReply s ts writer mm
 
 -- At the end of every history of `TableKept`, and so at every moment of it after a done opening. With too few homes for the table, at every moment at which
--- fetch, revise and transact answer by the store (`ActsAnswer`): 4 or 5 after the rows' own, whatever the tables are.
+-- fetch, revise and transact answer by the store (`ActsAnswer`): 4 or 5 after the rows' own, whatever the tables are. [S-50]
 pub record BandsAnswer : Type 0 where
   pub kept :
       (groups homes : ℕ) → tableHome + tableHomes ≤ homes → (f : Formatting groups homes) (ss : List (Step (List ℕ))) →

@@ -21,5 +21,6 @@ setCall l writer rows = accepted l writer rows (judgement rows)
 unfoldable pub foundIn : ℕ → Outcome → Lookup
 foundIn mm o = cond (eqb (o .code) 0) (lookUp (o .block) mm) (answered (o .code) 0 0 0)
 
+-- [S-66]
 unfoldable pub lookUpCall : Lent → ℕ → ℕ → Lookup
 lookUpCall l writer mm = cond (ltb mm depths) (foundIn mm (fetched l writer tableHome tableHomes)) (answered 11 0 0 0)

@@ -22,7 +22,7 @@ pub record TableAt (w : World) (ts : List (List ℕ)) : Type 0 where
       Leaves w (stepped tableHome tableHomes judged stored w (sets writer bytes batch)) (setCall (lentIn w batch) writer bytes)
 
 -- At the end of every history that begins with a done format, and so at every moment of it after a done opening: its steps set accepted tables, done or
--- refused, and are any acts of the store that do not store to the three homes; a crash cuts the book's list to the run.
+-- refused, and are any acts of the store that do not store to the three homes; a crash cuts the book's list to the run. [S-66]
 abbrev pub TableKept : Type 0
 TableKept =
     (groups homes : ℕ) → tableHome + tableHomes ≤ homes → (f : Formatting groups homes) (ss : List (Step (List ℕ))) →

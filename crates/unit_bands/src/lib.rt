@@ -29,7 +29,7 @@ fn refused(code: u64) -> Band
     }
 }
 
-// Sets the table; the figure is the ticket of its commit, with 12 and 13 the lowest millimetre in no row or in two.
+// Sets the table; the figure is the ticket of its commit, with 12 and 13 the lowest millimetre in no row or in two. [S-65]
 #[no_mangle]
 pub extern "C" fn kagutin_bands_set(
     log: &mut [u8],
@@ -58,7 +58,7 @@ pub extern "C" fn kagutin_bands_set(
     kagutin::kagutin_transact(log, area, state, newest, &table, batch, writer, HOME)
 }
 
-// The row of the table that a depth in millimetres lies in; 11 above 9,999, or where there is no table.
+// The row of the table that a depth in millimetres lies in; 11 above 9,999, or where there is no table. [S-66]
 #[no_mangle]
 pub extern "C" fn kagutin_bands_look_up(
     log: &[u8],

@@ -60,7 +60,7 @@ pub record RowTold (rs : List Row) (mm : ℕ) : Type 0 where
   pub one : InOne rs mm
   pub row : lookup mm rs ≡ rowOf rs (one .at)
 
--- for strips of any contents and length
+-- for strips of any contents and length [S-65]
 pub record Guarantee (bytes : List ℕ) : Type 0 where
   pub judged : Judged bytes (judgement bytes)
   pub taken : Sound bytes → ((mm : ℕ) → mm ≤ 9999 → InOne (rows bytes) mm) → judgement bytes ≡ verdict 0 0

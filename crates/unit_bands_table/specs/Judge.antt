@@ -48,6 +48,6 @@ overlaps rs = cond (ltb (doubled rs) depths) (verdict 13 (doubled rs)) (verdict 
 unfoldable pub coverage : List Row → Verdict
 coverage rs = cond (ltb (uncovered rs) depths) (verdict 12 (uncovered rs)) (overlaps rs)
 
--- "Answers: 11 ..; 12 ..; 13": in this order, 11 for the whole strip
+-- "Answers: 11 ..; 12 ..; 13": in this order, 11 for the whole strip [S-65]
 unfoldable pub judgement : List ℕ → Verdict
 judgement bytes = cond (sound bytes) (coverage (rows bytes)) (verdict 11 0)

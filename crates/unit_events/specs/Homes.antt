@@ -37,6 +37,7 @@ alarmHome = 24
 abbrev pub alarmHomes : ℕ
 alarmHomes = 6
 
+-- [S-64]
 abbrev pub owned : List Range
 owned =
     record { first = listHome; many = listHomes } ∷ record { first = tableHome; many = tableHomes } ∷ record { first = pumpsHome; many = pumpsHomes }
@@ -51,7 +52,7 @@ abbrev pub AllApart : List Range → Type 0
 AllApart [] = Unit {0}
 AllApart (r ∷ more) = ApartFrom r more × AllApart more
 
--- The four ranges are apart, homes 0 to 7 are in none of them, and each of pumps 0 to 7 has a home in the pumps' range.
+-- The four ranges are apart, homes 0 to 7 are in none of them, and each of pumps 0 to 7 has a home in the pumps' range. [S-64]
 pub record HomesApart : Type 0 where
   pub apart : AllApart owned
   pub above : (8 ≤ listHome) × (8 ≤ tableHome) × (8 ≤ pumpsHome) × (8 ≤ alarmHome)

@@ -48,6 +48,7 @@ pub record PumpAnswers (w : World) (s : Store) (es : List Event) (pump : ℕ) : 
 
 -- At the end of every history of `BookKept`, and so at every moment of it after a done opening. With too few homes for the pump, at every moment at which
 -- fetch, revise and transact answer by the store (`ActsAnswer`): 4 or 5, whatever the events are. For a pump above 7, at any moment and with any store.
+-- [S-50]
 pub record HoursAnswer : Type 0 where
   pub known :
       (pump : ℕ) → pump ≤ 7 → (groups homes : ℕ) → pumpHome pump + 1 ≤ homes → (f : Formatting groups homes) (ss : List (Step Event)) →

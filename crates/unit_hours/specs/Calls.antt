@@ -15,6 +15,7 @@ use Rattle.unit_hours_book.specs.declared.Due.{Due}
 pub use Rattle.unit_hours.specs.declared.Hours.{Hours}
 pub use Rattle.unit_hours.specs.declared.Services.{Services}
 
+-- [S-68]
 unfoldable pub known : ℕ → Bool
 known pump = leb pump 7
 

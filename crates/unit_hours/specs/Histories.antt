@@ -24,6 +24,7 @@ pub record BookAt (pump : ℕ) (w : World) (es : List Event) : Type 0 where
 
 -- At the end of every history that begins with a done format, and so at every moment of it after a done opening. Its steps are this pump's events, done
 -- or refused, and any acts of the store, other pumps' events among them, that do not store to the pump's home; a crash cuts the book's list to the run.
+-- [S-67]
 abbrev pub BookKept : Type 0
 BookKept =
     (pump : ℕ) → pump ≤ 7 → (groups homes : ℕ) → pumpHome pump + 1 ≤ homes → (f : Formatting groups homes) (ss : List (Step Event)) →

@@ -28,5 +28,6 @@ pub record Refusals (l : Lent) (writer pump : ℕ) : Type 0 where
   -- a refused event, whatever its number
   pub refusal : (e : Event) → eventCall l writer pump e .code ≢ 0 → Refusal l 0 (eventCall l writer pump e)
 
+-- [S-68]
 abbrev pub RefusalsOnPumps : Type 0
 RefusalsOnPumps = (l : Lent) (writer pump : ℕ) → Refusals l writer pump

@@ -47,7 +47,7 @@ fn no_services(code: u64) -> Services
     }
 }
 
-// A start of a pump at a second; the figure is the ticket of its commit.
+// A start of a pump at a second; the figure is the ticket of its commit. [S-68]
 #[no_mangle]
 pub extern "C" fn kagutin_pump_start(
     log: &mut [u8],
@@ -78,7 +78,7 @@ pub extern "C" fn kagutin_pump_start(
     unit_shared::finish(log, area, state, newest, &block, batch, writer, home, code)
 }
 
-// A stop of a pump at a second, answered as a start is.
+// A stop of a pump at a second, answered as a start is. [S-68]
 #[no_mangle]
 pub extern "C" fn kagutin_pump_stop(
     log: &mut [u8],
@@ -109,7 +109,7 @@ pub extern "C" fn kagutin_pump_stop(
     unit_shared::finish(log, area, state, newest, &block, batch, writer, home, code)
 }
 
-// Starts of a pump and the seconds of its finished runs.
+// Starts of a pump and the seconds of its finished runs. [S-67]
 #[no_mangle]
 pub extern "C" fn kagutin_pump_hours(
     log: &[u8],
@@ -137,7 +137,7 @@ pub extern "C" fn kagutin_pump_hours(
     }
 }
 
-// Whole services due of a pump, one each `interval` seconds of finished runs, and the seconds left over.
+// Whole services due of a pump, one each `interval` seconds of finished runs, and the seconds left over. [S-67]
 #[no_mangle]
 pub extern "C" fn kagutin_pump_services(
     log: &[u8],

@@ -18,12 +18,12 @@ late p second figure = cond (ltb second (p .last)) 16 (cond (ltb figure (2 ^ 32)
 unfoldable pub totalAt : Pump → ℕ → ℕ
 totalAt p second = p .total + (second - p .last)
 
--- "15 start while running or stop while idle", before 16
+-- "15 start while running or stop while idle", before 16 [S-68]
 unfoldable pub answer : Pump → Event → ℕ
 answer p (startAt second) = cond (p .running) 15 (late p second (p .starts + 1))
 answer p (stopAt second) = cond (p .running) (late p second (totalAt p second)) 15
 
--- "starts and total run seconds (stop less start, over finished runs)"
+-- "starts and total run seconds (stop less start, over finished runs)" [S-67]
 unfoldable pub after : Pump → Event → Pump
 after p (startAt second) = pump (p .starts + 1) (p .total) second true
 after p (stopAt second) = pump (p .starts) (totalAt p second) second false

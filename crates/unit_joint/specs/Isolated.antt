@@ -39,7 +39,7 @@ UnitsToldSame writer w v (s ∷ ss) [] = Unit {0}
 UnitsToldSame writer w v (s ∷ ss) (t ∷ ts) =
     ((d : Done) → noteOf s ≡ some d → writerOf s ≡ writer → ToldSame w v s t) × UnitsToldSame writer (stepped w s) (stepped v t) ss ts
 
--- from the format on: acts alike, then steps that make acts alike
+-- from the format on: acts alike, then steps that make acts alike [S-61]
 abbrev pub UnitsIsolated : Type 0
 UnitsIsolated =
     (groups homes : ℕ) (f g : Formatting groups homes) (before other : List Act) (ss ts : List Step) (writer : ℕ) (hidden : ℕ → Bool) →

@@ -58,6 +58,7 @@ unfoldable pub notesFrom : World → List (Option Done) → List Step → List (
 notesFrom w ns [] = ns
 notesFrom w ns (s ∷ ss) = notesFrom (stepped w s) (relabel (stepped w s) ns (noteOf s)) ss
 
+-- [S-87]
 unfoldable pub notes : World → List Step → List (Option Done)
 notes w ss = notesFrom w [] ss
 
@@ -146,7 +147,7 @@ pub record IsDone (w : World) (s : Step) : Type 0 where
 unfoldable pub ticketOf : World → Step → ℕ
 ticketOf w s = transactEnds w (writerOf s) (homeOf s) (blocksOf w s) (batchOf s) .figure
 
--- A done event is the last of its list.
+-- A done event is the last of its list. [S-87]
 abbrev pub DoneIsLast : Type 0
 DoneIsLast =
     (groups homes : ℕ) (f : Formatting groups homes) (before : List Step) (s : Step) (d : Done) → AllAllowed (afterFormat f) (before ++ (s ∷ [])) →
@@ -171,6 +172,7 @@ NoCuts (s ∷ ss) = NoCut s × NoCuts ss
 abbrev pub confirms : Step
 confirms = acts (plain (call confirm))
 
+-- [S-87]
 abbrev pub ConfirmedStays : Type 0
 ConfirmedStays =
     (groups homes : ℕ) (f : Formatting groups homes) (before : List Step) (s : Step) (between later : List Step) (d : Done) →

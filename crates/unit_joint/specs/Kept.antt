@@ -20,6 +20,7 @@ pub record JointAt (w : World) (ns : List (Option Done)) : Type 0 where
   pub pump : (p : ℕ) → p ≤ 7 → BookAt p w (noted (map (ofPump p) ns))
   pub alarms : AlarmsAt w (noted (map ofAlarms ns))
 
+-- [S-87]
 abbrev pub JointKept : Type 0
 JointKept =
     (groups homes : ℕ) → alarmHome + alarmHomes ≤ homes → (f : Formatting groups homes) (ss : List Step) → AllAllowed (afterFormat f) ss →

@@ -1,5 +1,6 @@
 //! Calls on several homes: the library and the reference implementation on
 //! made-up and damaged memory, byte for byte.
+//! Clauses: [S-62]
 
 use bindings::library::Reply;
 use bindings::part::Part;

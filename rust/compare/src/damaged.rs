@@ -1,4 +1,5 @@
 //! All calls on damaged images and strips.
+//! Clauses: [S-1, S-2, S-3, S-8, S-9, S-10, S-13, S-15, S-17, S-18, S-37, S-48]
 
 use crate::histories::{far, random_shape, Player, MOST_GROUPS};
 use crate::pair::Pair;

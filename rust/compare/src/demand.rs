@@ -1,6 +1,7 @@
 //! Demand 3 on the library: it performs every call of random histories, and
 //! what it answers and leaves is held to the book; and what rights keep from a
 //! writer. The builds take turns.
+//! Clauses: [S-52, S-53, S-54, S-55]
 
 use bindings::library::Calls;
 use bindings::trap;

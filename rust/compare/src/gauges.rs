@@ -1,5 +1,6 @@
 //! The comparison of two gauges: the library against the reference implementation,
 //! over all small lists, at the limits, and on random and damaged strips.
+//! Clauses: [S-71]
 
 use bindings::part::Part;
 use harness::rng::Rng;

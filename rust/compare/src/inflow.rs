@@ -1,5 +1,6 @@
 //! Inflow from float switches: the library against the reference implementation and against every choice inside small
 //! ranges, at the extremes, and on random numbers.
+//! Clauses: [S-72]
 
 use harness::rng::Rng;
 use reference::inflow::{bounds, inflow, Bounds, Range};

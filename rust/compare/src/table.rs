@@ -1,4 +1,5 @@
 //! Counts for a person to read.
+//! Clauses: [S-47, S-49]
 
 use crate::pair::{Counts, Sizes, GROUPS, HOMES};
 use reference::lent::Kind;

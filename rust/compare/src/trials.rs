@@ -1,5 +1,6 @@
 //! The paper's trials 11 to 13, with the answers it gives, the head mark of
 //! older logs, and the answers of a round and of rights.
+//! Clauses: [S-12, S-21, S-24, S-26, S-29, S-30, S-31, S-32, S-39]
 
 use crate::pair::Pair;
 use reference::layout::{header, Shape};

@@ -1,4 +1,5 @@
 //! Lists of rights made up at random, at the limits of their ranges.
+//! Clauses: [S-58, S-59, S-60]
 
 use crate::book::Block;
 use crate::rng::Rng;

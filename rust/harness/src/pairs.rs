@@ -1,6 +1,7 @@
 //! Pairs of histories: alike but for bytes in homes that a writer may at no
 //! time read. Every call must be answered the same in both, and the writer's
 //! reads must give the same blocks.
+//! Clauses: [S-61]
 
 use crate::book::Block;
 use crate::landing::{parse, Areas, Submitted};

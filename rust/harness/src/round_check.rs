@@ -1,5 +1,6 @@
 //! What the paper says of rounds: answers to expect, and what must hold after
 //! each step and at the end.
+//! Clauses: [S-40, S-41, S-42]
 
 use crate::check::must;
 use crate::landing::{parse, Record};

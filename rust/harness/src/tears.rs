@@ -1,5 +1,6 @@
 //! Torn stretches: every choice of up to twelve blocks of a stretch, and the
 //! opening after each held to the book. The history itself is not disturbed.
+//! Clauses: [S-14, S-15, S-52]
 
 use crate::landing::Areas;
 use crate::literal;

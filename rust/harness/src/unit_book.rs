@@ -1,5 +1,6 @@
 //! What the labels of the book's commits say: the last table, a pump's events,
 //! the alarms not cleared; and the answers that they lead one to expect.
+//! Clauses: [S-63, S-65, S-66, S-67, S-68, S-69, S-70]
 
 use crate::world::World;
 use reference::alarms::{self, Alarm};

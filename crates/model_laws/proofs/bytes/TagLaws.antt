@@ -171,7 +171,7 @@ read-above used closing above upper home back link count position base homes h =
     both true = refl
     both false = refl
 
--- "Logs of smaller stations read as they did": on every word that a station wrote before blocks had turns
+-- "Logs of smaller stations read as they did": on every word that a station wrote before blocks had turns [S-16]
 pub read-small : (word position base homes : ℕ) → homes ≤ 4096 → displaced word ≡ 0
     → readTag word position base homes ≡ readSmallTag word position base homes
 unfolding readTag readSmallTag
