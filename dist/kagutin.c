@@ -551,7 +551,7 @@ static inline bool base_order__quick__records_in_order(struct slice_u8 s, struct
 }
 
 /* Question 2 for a log of `groups` groups and `homes` homes: 0 if the strip is seen to be in order, else 2, which
-   `whole_in_order` may still deny. */
+   `whole_in_order` may still deny. [S-48] */
 static inline uint64_t base_order__quick__quick_answer(struct slice_u8 s, uint64_t groups, uint64_t homes)
 {
     uint64_t t4, t5, t6, t7, t638, t639;
@@ -716,7 +716,7 @@ static inline bool base_order__whole__rest_in_order(struct slice_u8 s, struct mo
     return base_order__whole__writers_in_order(s, st);
 }
 
-/* Question 2 for a log of `groups` groups and `homes` homes, whatever is promised and whether a round is under way. */
+/* Question 2 for a log of `groups` groups and `homes` homes, whatever is promised and whether a round is under way. [S-48] */
 static inline bool base_order__whole__whole_in_order(struct slice_u8 s, uint64_t groups, uint64_t homes)
 {
     uint64_t t4, t6, t323, t324;
@@ -854,7 +854,7 @@ static inline struct call_ask__Reply call_writer__abort(struct slice_u8 log, str
     return (struct call_ask__Reply){.code = 0u, .figure = 0u, .size = 0u};
 }
 
-/* Drops a writer's open transaction with the block that it holds, and gives back the places promised to it. */
+/* Drops a writer's open transaction with the block that it holds, and gives back the places promised to it. [S-7, S-9, S-28] */
 static inline struct call_ask__Reply kagutin__kagutin_abort(struct slice_u8 log, struct slice_u8 area, struct slice_mut_u8 state,
         uint64_t writer)
 {
@@ -913,7 +913,7 @@ static inline struct call_ask__Reply call_writer__begin(struct slice_u8 log, str
     return (struct call_ask__Reply){.code = 0u, .figure = 0u, .size = 0u};
 }
 
-/* Begins a transaction of a writer that has none open. */
+/* Begins a transaction of a writer that has none open. [S-7, S-9, S-28] */
 static inline struct call_ask__Reply kagutin__kagutin_begin(struct slice_u8 log, struct slice_u8 area, struct slice_mut_u8 state,
         uint64_t writer)
 {
@@ -945,7 +945,7 @@ static inline struct call_ask__Reply call_settle__rounds__begin_round(struct sli
     return (struct call_ask__Reply){.code = 0u, .figure = 0u, .size = 0u};
 }
 
-/* Begins a round of settling in small steps, which covers the commits below the fenced position of now. */
+/* Begins a round of settling in small steps, which covers the commits below the fenced position of now. [S-7, S-9, S-40] */
 static inline struct call_ask__Reply kagutin__kagutin_begin_round(struct slice_u8 log, struct slice_u8 area,
         struct slice_mut_u8 state)
 {
@@ -1085,7 +1085,7 @@ static inline uint64_t call_store__entry__closing_word(struct model__State st, s
 }
 
 /* The same for any group, as the first of a pass: a small machine divides numbers of 64 bits by a library call, and few logs get
-   that far. */
+   that far. [S-20] */
 static inline struct log_scan__slots__RingSlot log_scan__slots__first_slot(uint64_t n, uint64_t groups)
 {
     uint32_t t11, t12;
@@ -1190,7 +1190,7 @@ static inline void base_codec__turns__copy_with_top_bit(struct slice_mut_u8 dst,
 }
 
 /* Writes an entry's tag and its block at index `k` of the group in a ring slot: the block gets the turn bit, and the tag the bit
-   that it displaces. */
+   that it displaces. [S-14] */
 static inline void base_areas__groups__put_entry(struct slice_mut_u8 log, uint64_t slot, uint64_t turn, uint64_t k, uint64_t word,
         struct slice_u8 block)
 {
@@ -1203,7 +1203,7 @@ static inline void base_areas__groups__put_entry(struct slice_mut_u8 log, uint64
 }
 
 /* Writes an entry's tag and block at the next position, whose group has the turn `turn`, and a blank group first where the
-   position is a group's first. */
+   position is a group's first. [S-11] */
 static inline void base_areas__groups__enter(struct slice_mut_u8 log, uint64_t slot, uint64_t turn, struct model__State st,
         uint64_t word, struct slice_u8 block)
 {
@@ -1228,7 +1228,7 @@ static inline void base_codec__marks__put_group_write_mark(struct slice_mut_u8 d
     dst.ptr[(size_t)(at + 1u)] = t10.ptr[1u];
 }
 
-/* Appends the write of the group that the log holds in a ring slot. */
+/* Appends the write of the group that the log holds in a ring slot. [S-5] */
 static inline uint64_t base_batch__records__group_write(struct slice_mut_u8 batch, uint64_t at, uint64_t slot,
         struct slice_u8 log)
 {
@@ -1304,7 +1304,7 @@ static inline uint64_t log_scan__groups__word_there(struct slice_u8 group, uint6
     return load_8(group.ptr + (size_t)(8u + (8u * k)));
 }
 
-/* What a word says at a position of a log that starts at position `base` and has `homes` homes. */
+/* What a word says at a position of a log that starts at position `base` and has `homes` homes. [S-13] */
 static inline struct model__Tag base_codec__tags__read_tag(uint64_t word, uint64_t position, uint64_t base, uint64_t homes)
 {
     uint64_t t5, t6, t7, t8;
@@ -1461,7 +1461,7 @@ static inline void log_newest__commits__keep_rest(struct slice_u8 log, uint64_t 
             pass.number, t9.turn, pass.done, m, first, newest);
 }
 
-/* Those of the group after: the turn changes where the slots begin again. */
+/* Those of the group after: the turn changes where the slots begin again. [S-20] */
 static inline struct log_scan__slots__RingSlot log_scan__slots__next_slot(struct log_scan__slots__RingSlot at, uint64_t groups)
 {
     uint64_t t3;
@@ -1952,7 +1952,7 @@ static inline struct call_ask__Reply call_commit__commit(struct slice_mut_u8 log
     return (struct call_ask__Reply){.code = 0u, .figure = ((7u * t10.next) + t10.filled) + 1u, .size = t12};
 }
 
-/* Ends a writer's transaction: logs the held block as its closing entry, and returns the ticket. */
+/* Ends a writer's transaction: logs the held block as its closing entry, and returns the ticket. [S-7, S-9, S-31] */
 static inline struct call_ask__Reply kagutin__kagutin_commit(struct slice_mut_u8 log, struct slice_u8 area,
         struct slice_mut_u8 state, struct slice_mut_u8 newest, struct slice_mut_u8 batch, uint64_t writer)
 {
@@ -1980,7 +1980,7 @@ static inline struct call_ask__Reply call_writer__confirm(struct slice_u8 log, s
     return (struct call_ask__Reply){.code = 0u, .figure = t5, .size = 0u};
 }
 
-/* Makes the fenced position the durable mark, and returns it. */
+/* Makes the fenced position the durable mark, and returns it. [S-7, S-9, S-34] */
 static inline struct call_ask__Reply kagutin__kagutin_confirm(struct slice_u8 log, struct slice_u8 area,
         struct slice_mut_u8 state)
 {
@@ -2392,7 +2392,7 @@ static inline uint64_t log_search__own__note_group(struct slice_u8 group, uint64
     return t12;
 }
 
-/* Those of the group before. */
+/* Those of the group before. [S-20] */
 static inline struct log_scan__slots__RingSlot log_scan__slots__previous_slot(struct log_scan__slots__RingSlot at,
         uint64_t groups)
 {
@@ -2520,7 +2520,7 @@ static inline void base_areas__homes__get_home(struct slice_mut_u8 block, struct
 }
 
 /* Writes the block that the entry at index `k` of the group in a ring slot gives, with the displaced bit back in its place, from
-   index `at` on. */
+   index `at` on. [S-15] */
 static inline void base_areas__groups__copy_entry(struct slice_mut_u8 dst, uint64_t at, struct slice_u8 log, uint64_t slot,
         uint64_t k)
 {
@@ -2604,7 +2604,8 @@ static inline struct call_ask__Reply call_many_fetch__fetches__fetch(struct slic
     return (struct call_ask__Reply){.code = 0u, .figure = 0u, .size = 0u};
 }
 
-/* Reads the blocks of one to seven homes from `home` on, one behind the other, as a writer that may read them all sees them. */
+/* Reads the blocks of one to seven homes from `home` on, one behind the other, as a writer that may read them all sees them.
+   [S-7, S-9, S-62] */
 static inline struct call_ask__Reply kagutin__kagutin_fetch(struct slice_u8 log, struct slice_u8 area, struct slice_u8 state,
         struct slice_u8 newest, struct slice_mut_u8 blocks, uint64_t writer, uint64_t home)
 {
@@ -2673,7 +2674,7 @@ static inline void base_codec__marks__put_fence_mark(struct slice_mut_u8 dst, ui
     dst.ptr[(size_t)(at + 1u)] = t10.ptr[1u];
 }
 
-/* Appends a fence. */
+/* Appends a fence. [S-5] */
 static inline uint64_t base_batch__records__fence(struct slice_mut_u8 batch, uint64_t at)
 {
     base_codec__marks__put_fence_mark(batch, at);
@@ -2728,7 +2729,7 @@ static inline struct call_ask__Reply call_flush__flush(struct slice_u8 log, stru
     return (struct call_ask__Reply){.code = 0u, .figure = 0u, .size = (uint64_t)516u + 2u};
 }
 
-/* Submits the group that is being filled, and a fence. */
+/* Submits the group that is being filled, and a fence. [S-7, S-9, S-33] */
 static inline struct call_ask__Reply kagutin__kagutin_flush(struct slice_u8 log, struct slice_u8 area, struct slice_mut_u8 state,
         struct slice_mut_u8 batch)
 {
@@ -2907,7 +2908,7 @@ static inline uint64_t base_batch__format__all_homes(struct slice_mut_u8 batch, 
     return t4;
 }
 
-/* Appends the write of the header with a start and the numbers of groups and homes. */
+/* Appends the write of the header with a start and the numbers of groups and homes. [S-5] */
 static inline uint64_t base_batch__records__header_write(struct slice_mut_u8 batch, uint64_t at, uint64_t start, uint64_t groups,
         uint64_t homes)
 {
@@ -2949,7 +2950,7 @@ static inline struct call_ask__Reply call_open__formatting__format(struct slice_
     return (struct call_ask__Reply){.code = 0u, .figure = 0u, .size = t7};
 }
 
-/* Writes an empty store: every group unused, every home zeros, then the header. */
+/* Writes an empty store: every group unused, every home zeros, then the header. [S-7, S-9, S-21, S-22] */
 static inline struct call_ask__Reply kagutin__kagutin_format(struct slice_mut_u8 log, struct slice_mut_u8 area,
         struct slice_mut_u8 batch)
 {
@@ -3679,7 +3680,7 @@ static inline void log_replay__restore__restore_word(struct slice_u8 log, struct
     }
 }
 
-/* Appends the write of the block that the data area holds in a home. */
+/* Appends the write of the block that the data area holds in a home. [S-5] */
 static inline uint64_t base_batch__records__home_write(struct slice_mut_u8 batch, uint64_t at, uint64_t home,
         struct slice_u8 area)
 {
@@ -3945,7 +3946,8 @@ static inline struct call_ask__Reply call_open__opening__reopen(struct slice_mut
     return (struct call_ask__Reply){.code = 0u, .figure = t12.number, .size = t13};
 }
 
-/* Brings back what a power cut left: replays the committed transactions into the data copy and starts the log anew. */
+/* Brings back what a power cut left: replays the committed transactions into the data copy and starts the log anew. [S-7, S-9,
+   S-24, S-26] */
 static inline struct call_ask__Reply kagutin__kagutin_open(struct slice_mut_u8 log, struct slice_mut_u8 area,
         struct slice_mut_u8 state, struct slice_mut_u8 newest, struct slice_mut_u8 batch)
 {
@@ -4028,7 +4030,7 @@ static inline struct call_ask__Reply call_read__read(struct slice_u8 log, struct
     return (struct call_ask__Reply){.code = 0u, .figure = 0u, .size = 0u};
 }
 
-/* Reads the block of a home as a writer sees it. */
+/* Reads the block of a home as a writer sees it. [S-7, S-9, S-35, S-37] */
 static inline struct call_ask__Reply kagutin__kagutin_read(struct slice_u8 log, struct slice_u8 area, struct slice_u8 state,
         struct slice_u8 newest, struct slice_mut_u8 block, uint64_t writer, uint64_t home)
 {
@@ -4098,7 +4100,8 @@ static inline struct call_ask__Reply call_writer__reserve(struct slice_u8 log, s
     return (struct call_ask__Reply){.code = 0u, .figure = 0u, .size = 0u};
 }
 
-/* Begins a transaction of a writer that has none open, and promises it `n` places: its first `n` entries find room. */
+/* Begins a transaction of a writer that has none open, and promises it `n` places: its first `n` entries find room. [S-7, S-9,
+   S-43] */
 static inline struct call_ask__Reply kagutin__kagutin_reserve(struct slice_u8 log, struct slice_u8 area,
         struct slice_mut_u8 state, uint64_t writer, uint64_t n)
 {
@@ -4186,7 +4189,7 @@ static inline struct call_ask__Reply call_many_fetch__fetches__revise(struct sli
     return (struct call_ask__Reply){.code = 0u, .figure = 0u, .size = 0u};
 }
 
-/* The same for a writer that is going to store what it makes of the blocks: it may store to the homes, too. */
+/* The same for a writer that is going to store what it makes of the blocks: it may store to the homes, too. [S-7, S-9, S-62] */
 static inline struct call_ask__Reply kagutin__kagutin_revise(struct slice_u8 log, struct slice_u8 area, struct slice_u8 state,
         struct slice_u8 newest, struct slice_mut_u8 blocks, uint64_t writer, uint64_t home)
 {
@@ -4226,7 +4229,7 @@ static inline struct call_ask__Reply call_settle__settling__settle(struct slice_
     return (struct call_ask__Reply){.code = 0u, .figure = 0u, .size = t8};
 }
 
-/* Writes the homes of the commits below the fenced position, and a fence. */
+/* Writes the homes of the commits below the fenced position, and a fence. [S-7, S-9, S-38] */
 static inline struct call_ask__Reply kagutin__kagutin_settle(struct slice_u8 log, struct slice_mut_u8 area,
         struct slice_mut_u8 state, struct slice_mut_u8 batch)
 {
@@ -4532,7 +4535,7 @@ static inline struct call_ask__Reply call_settle__rounds__step_round(struct slic
     return (struct call_ask__Reply){.code = 0u, .figure = 0u, .size = t10};
 }
 
-/* Writes the next `homes` homes of the round under way; with the last of them a fence, and the round is over. */
+/* Writes the next `homes` homes of the round under way; with the last of them a fence, and the round is over. [S-7, S-9, S-40] */
 static inline struct call_ask__Reply kagutin__kagutin_step_round(struct slice_u8 log, struct slice_mut_u8 area,
         struct slice_mut_u8 state, struct slice_mut_u8 batch, uint64_t homes)
 {
@@ -4751,7 +4754,8 @@ static inline struct call_ask__Reply call_store__stores__store(struct slice_mut_
     return (struct call_ask__Reply){.code = 0u, .figure = 0u, .size = t11};
 }
 
-/* Holds a block for a home in a writer's open transaction; a block held for another home is logged first. */
+/* Holds a block for a home in a writer's open transaction; a block held for another home is logged first. [S-7, S-9, S-29, S-30]
+   */
 static inline struct call_ask__Reply kagutin__kagutin_store(struct slice_mut_u8 log, struct slice_u8 area,
         struct slice_mut_u8 state, struct slice_u8 block, struct slice_mut_u8 batch, uint64_t writer, uint64_t home)
 {
@@ -4873,7 +4877,7 @@ static inline struct call_ask__Reply call_many__transacts__transact(struct slice
 }
 
 /* Begins a transaction of an idle writer, stores one to seven blocks for the homes from `home` on and commits them. The figure is
-   the ticket. */
+   the ticket. [S-7, S-9, S-62] */
 static inline struct call_ask__Reply kagutin__kagutin_transact(struct slice_mut_u8 log, struct slice_u8 area,
         struct slice_mut_u8 state, struct slice_mut_u8 newest, struct slice_u8 blocks, struct slice_mut_u8 batch, uint64_t writer,
         uint64_t home)
@@ -5237,7 +5241,7 @@ static inline struct call_ask__Reply call_trim__trim(struct slice_mut_u8 log, st
     return (struct call_ask__Reply){.code = 0u, .figure = 0u, .size = 68u};
 }
 
-/* Moves the log's start up as far as no transaction lies across it. */
+/* Moves the log's start up as far as no transaction lies across it. [S-7, S-9, S-39] */
 static inline struct call_ask__Reply kagutin__kagutin_trim(struct slice_mut_u8 log, struct slice_u8 area,
         struct slice_mut_u8 state, struct slice_mut_u8 newest, struct slice_mut_u8 batch)
 {
@@ -5452,7 +5456,8 @@ static inline struct model__Usage call_usage__usage(struct slice_u8 log, struct 
     return call_usage__told(log, area, state);
 }
 
-/* Tells how many places of the log are live, dead, free and promised, and which open transaction lies lowest in it. */
+/* Tells how many places of the log are live, dead, free and promised, and which open transaction lies lowest in it. [S-7, S-9,
+   S-45] */
 static inline struct model__Usage kagutin__kagutin_usage(struct slice_u8 log, struct slice_u8 area, struct slice_u8 state)
 {
     return call_usage__usage(log, area, state);

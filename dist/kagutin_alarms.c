@@ -439,7 +439,7 @@ static inline struct call_ask__Reply unit_shared__finish(struct slice_mut_u8 log
     return kagutin__kagutin_transact(log, area, state, newest, blocks, batch, writer, home);
 }
 
-/* An alarm arrives; the figure is the ticket of its commit. */
+/* An alarm arrives; the figure is the ticket of its commit. [S-70] */
 static inline struct call_ask__Reply unit_alarms__kagutin_alarm_arrive(struct slice_mut_u8 log, struct slice_u8 area,
         struct slice_mut_u8 state, struct slice_mut_u8 newest, struct slice_mut_u8 batch, uint64_t writer, uint16_t identity,
         uint64_t class, uint32_t second)
@@ -487,7 +487,7 @@ static inline uint64_t unit_alarms_list__clear(struct slice_u8 list, struct slic
     return 0u;
 }
 
-/* An alarm clears; the figure is the ticket of its commit. */
+/* An alarm clears; the figure is the ticket of its commit. [S-70] */
 static inline struct call_ask__Reply unit_alarms__kagutin_alarm_clear(struct slice_mut_u8 log, struct slice_u8 area,
         struct slice_mut_u8 state, struct slice_mut_u8 newest, struct slice_mut_u8 batch, uint64_t writer, uint16_t identity)
 {
@@ -515,7 +515,7 @@ static inline struct call_ask__Reply kagutin__kagutin_fetch(struct slice_u8 log,
     return (struct call_ask__Reply){.code = (uint64_t)r.code, .figure = (uint64_t)r.figure, .size = (uint64_t)r.size};
 }
 
-/* The gravest open alarm, as it is kept in the first home. */
+/* The gravest open alarm, as it is kept in the first home. [S-69] */
 static inline struct unit_alarms__Gravest unit_alarms__kagutin_alarm_gravest(struct slice_u8 log, struct slice_u8 area,
         struct slice_u8 state, struct slice_u8 newest, uint64_t writer)
 {

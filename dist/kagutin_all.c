@@ -572,7 +572,7 @@ static inline bool base_order__quick__records_in_order(struct core_slice_u8 s, s
 }
 
 /* Question 2 for a log of `groups` groups and `homes` homes: 0 if the strip is seen to be in order, else 2, which
-   `whole_in_order` may still deny. */
+   `whole_in_order` may still deny. [S-48] */
 static inline uint64_t base_order__quick__quick_answer(struct core_slice_u8 s, uint64_t groups, uint64_t homes)
 {
     uint64_t t4, t5, t6, t7, t638, t639;
@@ -737,7 +737,7 @@ static inline bool base_order__whole__rest_in_order(struct core_slice_u8 s, stru
     return base_order__whole__writers_in_order(s, st);
 }
 
-/* Question 2 for a log of `groups` groups and `homes` homes, whatever is promised and whether a round is under way. */
+/* Question 2 for a log of `groups` groups and `homes` homes, whatever is promised and whether a round is under way. [S-48] */
 static inline bool base_order__whole__whole_in_order(struct core_slice_u8 s, uint64_t groups, uint64_t homes)
 {
     uint64_t t4, t6, t323, t324;
@@ -875,7 +875,7 @@ static inline struct core_call_ask__Reply call_writer__abort(struct core_slice_u
     return (struct core_call_ask__Reply){.code = 0u, .figure = 0u, .size = 0u};
 }
 
-/* Drops a writer's open transaction with the block that it holds, and gives back the places promised to it. */
+/* Drops a writer's open transaction with the block that it holds, and gives back the places promised to it. [S-7, S-9, S-28] */
 static inline struct core_call_ask__Reply kagutin__kagutin_abort(struct core_slice_u8 log, struct core_slice_u8 area, struct core_slice_mut_u8 state,
         uint64_t writer)
 {
@@ -934,7 +934,7 @@ static inline struct core_call_ask__Reply call_writer__begin(struct core_slice_u
     return (struct core_call_ask__Reply){.code = 0u, .figure = 0u, .size = 0u};
 }
 
-/* Begins a transaction of a writer that has none open. */
+/* Begins a transaction of a writer that has none open. [S-7, S-9, S-28] */
 static inline struct core_call_ask__Reply kagutin__kagutin_begin(struct core_slice_u8 log, struct core_slice_u8 area, struct core_slice_mut_u8 state,
         uint64_t writer)
 {
@@ -966,7 +966,7 @@ static inline struct core_call_ask__Reply call_settle__rounds__begin_round(struc
     return (struct core_call_ask__Reply){.code = 0u, .figure = 0u, .size = 0u};
 }
 
-/* Begins a round of settling in small steps, which covers the commits below the fenced position of now. */
+/* Begins a round of settling in small steps, which covers the commits below the fenced position of now. [S-7, S-9, S-40] */
 static inline struct core_call_ask__Reply kagutin__kagutin_begin_round(struct core_slice_u8 log, struct core_slice_u8 area,
         struct core_slice_mut_u8 state)
 {
@@ -1106,7 +1106,7 @@ static inline uint64_t call_store__entry__closing_word(struct model__State st, s
 }
 
 /* The same for any group, as the first of a pass: a small machine divides numbers of 64 bits by a library call, and few logs get
-   that far. */
+   that far. [S-20] */
 static inline struct log_scan__slots__RingSlot log_scan__slots__first_slot(uint64_t n, uint64_t groups)
 {
     uint32_t t11, t12;
@@ -1211,7 +1211,7 @@ static inline void base_codec__turns__copy_with_top_bit(struct core_slice_mut_u8
 }
 
 /* Writes an entry's tag and its block at index `k` of the group in a ring slot: the block gets the turn bit, and the tag the bit
-   that it displaces. */
+   that it displaces. [S-14] */
 static inline void base_areas__groups__put_entry(struct core_slice_mut_u8 log, uint64_t slot, uint64_t turn, uint64_t k, uint64_t word,
         struct core_slice_u8 block)
 {
@@ -1224,7 +1224,7 @@ static inline void base_areas__groups__put_entry(struct core_slice_mut_u8 log, u
 }
 
 /* Writes an entry's tag and block at the next position, whose group has the turn `turn`, and a blank group first where the
-   position is a group's first. */
+   position is a group's first. [S-11] */
 static inline void base_areas__groups__enter(struct core_slice_mut_u8 log, uint64_t slot, uint64_t turn, struct model__State st,
         uint64_t word, struct core_slice_u8 block)
 {
@@ -1249,7 +1249,7 @@ static inline void base_codec__marks__put_group_write_mark(struct core_slice_mut
     dst.ptr[(size_t)(at + 1u)] = t10.ptr[1u];
 }
 
-/* Appends the write of the group that the log holds in a ring slot. */
+/* Appends the write of the group that the log holds in a ring slot. [S-5] */
 static inline uint64_t base_batch__records__group_write(struct core_slice_mut_u8 batch, uint64_t at, uint64_t slot,
         struct core_slice_u8 log)
 {
@@ -1325,7 +1325,7 @@ static inline uint64_t log_scan__groups__word_there(struct core_slice_u8 group, 
     return core_load_8(group.ptr + (size_t)(8u + (8u * k)));
 }
 
-/* What a word says at a position of a log that starts at position `base` and has `homes` homes. */
+/* What a word says at a position of a log that starts at position `base` and has `homes` homes. [S-13] */
 static inline struct model__Tag base_codec__tags__read_tag(uint64_t word, uint64_t position, uint64_t base, uint64_t homes)
 {
     uint64_t t5, t6, t7, t8;
@@ -1482,7 +1482,7 @@ static inline void log_newest__commits__keep_rest(struct core_slice_u8 log, uint
             pass.number, t9.turn, pass.done, m, first, newest);
 }
 
-/* Those of the group after: the turn changes where the slots begin again. */
+/* Those of the group after: the turn changes where the slots begin again. [S-20] */
 static inline struct log_scan__slots__RingSlot log_scan__slots__next_slot(struct log_scan__slots__RingSlot at, uint64_t groups)
 {
     uint64_t t3;
@@ -1973,7 +1973,7 @@ static inline struct core_call_ask__Reply call_commit__commit(struct core_slice_
     return (struct core_call_ask__Reply){.code = 0u, .figure = ((7u * t10.next) + t10.filled) + 1u, .size = t12};
 }
 
-/* Ends a writer's transaction: logs the held block as its closing entry, and returns the ticket. */
+/* Ends a writer's transaction: logs the held block as its closing entry, and returns the ticket. [S-7, S-9, S-31] */
 static inline struct core_call_ask__Reply kagutin__kagutin_commit(struct core_slice_mut_u8 log, struct core_slice_u8 area,
         struct core_slice_mut_u8 state, struct core_slice_mut_u8 newest, struct core_slice_mut_u8 batch, uint64_t writer)
 {
@@ -2001,7 +2001,7 @@ static inline struct core_call_ask__Reply call_writer__confirm(struct core_slice
     return (struct core_call_ask__Reply){.code = 0u, .figure = t5, .size = 0u};
 }
 
-/* Makes the fenced position the durable mark, and returns it. */
+/* Makes the fenced position the durable mark, and returns it. [S-7, S-9, S-34] */
 static inline struct core_call_ask__Reply kagutin__kagutin_confirm(struct core_slice_u8 log, struct core_slice_u8 area,
         struct core_slice_mut_u8 state)
 {
@@ -2413,7 +2413,7 @@ static inline uint64_t log_search__own__note_group(struct core_slice_u8 group, u
     return t12;
 }
 
-/* Those of the group before. */
+/* Those of the group before. [S-20] */
 static inline struct log_scan__slots__RingSlot log_scan__slots__previous_slot(struct log_scan__slots__RingSlot at,
         uint64_t groups)
 {
@@ -2541,7 +2541,7 @@ static inline void base_areas__homes__get_home(struct core_slice_mut_u8 block, s
 }
 
 /* Writes the block that the entry at index `k` of the group in a ring slot gives, with the displaced bit back in its place, from
-   index `at` on. */
+   index `at` on. [S-15] */
 static inline void base_areas__groups__copy_entry(struct core_slice_mut_u8 dst, uint64_t at, struct core_slice_u8 log, uint64_t slot,
         uint64_t k)
 {
@@ -2625,7 +2625,8 @@ static inline struct core_call_ask__Reply call_many_fetch__fetches__fetch(struct
     return (struct core_call_ask__Reply){.code = 0u, .figure = 0u, .size = 0u};
 }
 
-/* Reads the blocks of one to seven homes from `home` on, one behind the other, as a writer that may read them all sees them. */
+/* Reads the blocks of one to seven homes from `home` on, one behind the other, as a writer that may read them all sees them.
+   [S-7, S-9, S-62] */
 static inline struct core_call_ask__Reply core_kagutin__kagutin_fetch(struct core_slice_u8 log, struct core_slice_u8 area, struct core_slice_u8 state,
         struct core_slice_u8 newest, struct core_slice_mut_u8 blocks, uint64_t writer, uint64_t home)
 {
@@ -2694,7 +2695,7 @@ static inline void base_codec__marks__put_fence_mark(struct core_slice_mut_u8 ds
     dst.ptr[(size_t)(at + 1u)] = t10.ptr[1u];
 }
 
-/* Appends a fence. */
+/* Appends a fence. [S-5] */
 static inline uint64_t base_batch__records__fence(struct core_slice_mut_u8 batch, uint64_t at)
 {
     base_codec__marks__put_fence_mark(batch, at);
@@ -2749,7 +2750,7 @@ static inline struct core_call_ask__Reply call_flush__flush(struct core_slice_u8
     return (struct core_call_ask__Reply){.code = 0u, .figure = 0u, .size = (uint64_t)516u + 2u};
 }
 
-/* Submits the group that is being filled, and a fence. */
+/* Submits the group that is being filled, and a fence. [S-7, S-9, S-33] */
 static inline struct core_call_ask__Reply kagutin__kagutin_flush(struct core_slice_u8 log, struct core_slice_u8 area, struct core_slice_mut_u8 state,
         struct core_slice_mut_u8 batch)
 {
@@ -2928,7 +2929,7 @@ static inline uint64_t base_batch__format__all_homes(struct core_slice_mut_u8 ba
     return t4;
 }
 
-/* Appends the write of the header with a start and the numbers of groups and homes. */
+/* Appends the write of the header with a start and the numbers of groups and homes. [S-5] */
 static inline uint64_t base_batch__records__header_write(struct core_slice_mut_u8 batch, uint64_t at, uint64_t start, uint64_t groups,
         uint64_t homes)
 {
@@ -2970,7 +2971,7 @@ static inline struct core_call_ask__Reply call_open__formatting__format(struct c
     return (struct core_call_ask__Reply){.code = 0u, .figure = 0u, .size = t7};
 }
 
-/* Writes an empty store: every group unused, every home zeros, then the header. */
+/* Writes an empty store: every group unused, every home zeros, then the header. [S-7, S-9, S-21, S-22] */
 static inline struct core_call_ask__Reply kagutin__kagutin_format(struct core_slice_mut_u8 log, struct core_slice_mut_u8 area,
         struct core_slice_mut_u8 batch)
 {
@@ -3700,7 +3701,7 @@ static inline void log_replay__restore__restore_word(struct core_slice_u8 log, s
     }
 }
 
-/* Appends the write of the block that the data area holds in a home. */
+/* Appends the write of the block that the data area holds in a home. [S-5] */
 static inline uint64_t base_batch__records__home_write(struct core_slice_mut_u8 batch, uint64_t at, uint64_t home,
         struct core_slice_u8 area)
 {
@@ -3966,7 +3967,8 @@ static inline struct core_call_ask__Reply call_open__opening__reopen(struct core
     return (struct core_call_ask__Reply){.code = 0u, .figure = t12.number, .size = t13};
 }
 
-/* Brings back what a power cut left: replays the committed transactions into the data copy and starts the log anew. */
+/* Brings back what a power cut left: replays the committed transactions into the data copy and starts the log anew. [S-7, S-9,
+   S-24, S-26] */
 static inline struct core_call_ask__Reply kagutin__kagutin_open(struct core_slice_mut_u8 log, struct core_slice_mut_u8 area,
         struct core_slice_mut_u8 state, struct core_slice_mut_u8 newest, struct core_slice_mut_u8 batch)
 {
@@ -4049,7 +4051,7 @@ static inline struct core_call_ask__Reply call_read__read(struct core_slice_u8 l
     return (struct core_call_ask__Reply){.code = 0u, .figure = 0u, .size = 0u};
 }
 
-/* Reads the block of a home as a writer sees it. */
+/* Reads the block of a home as a writer sees it. [S-7, S-9, S-35, S-37] */
 static inline struct core_call_ask__Reply kagutin__kagutin_read(struct core_slice_u8 log, struct core_slice_u8 area, struct core_slice_u8 state,
         struct core_slice_u8 newest, struct core_slice_mut_u8 block, uint64_t writer, uint64_t home)
 {
@@ -4119,7 +4121,8 @@ static inline struct core_call_ask__Reply call_writer__reserve(struct core_slice
     return (struct core_call_ask__Reply){.code = 0u, .figure = 0u, .size = 0u};
 }
 
-/* Begins a transaction of a writer that has none open, and promises it `n` places: its first `n` entries find room. */
+/* Begins a transaction of a writer that has none open, and promises it `n` places: its first `n` entries find room. [S-7, S-9,
+   S-43] */
 static inline struct core_call_ask__Reply kagutin__kagutin_reserve(struct core_slice_u8 log, struct core_slice_u8 area,
         struct core_slice_mut_u8 state, uint64_t writer, uint64_t n)
 {
@@ -4207,7 +4210,7 @@ static inline struct core_call_ask__Reply call_many_fetch__fetches__revise(struc
     return (struct core_call_ask__Reply){.code = 0u, .figure = 0u, .size = 0u};
 }
 
-/* The same for a writer that is going to store what it makes of the blocks: it may store to the homes, too. */
+/* The same for a writer that is going to store what it makes of the blocks: it may store to the homes, too. [S-7, S-9, S-62] */
 static inline struct core_call_ask__Reply core_kagutin__kagutin_revise(struct core_slice_u8 log, struct core_slice_u8 area, struct core_slice_u8 state,
         struct core_slice_u8 newest, struct core_slice_mut_u8 blocks, uint64_t writer, uint64_t home)
 {
@@ -4247,7 +4250,7 @@ static inline struct core_call_ask__Reply call_settle__settling__settle(struct c
     return (struct core_call_ask__Reply){.code = 0u, .figure = 0u, .size = t8};
 }
 
-/* Writes the homes of the commits below the fenced position, and a fence. */
+/* Writes the homes of the commits below the fenced position, and a fence. [S-7, S-9, S-38] */
 static inline struct core_call_ask__Reply kagutin__kagutin_settle(struct core_slice_u8 log, struct core_slice_mut_u8 area,
         struct core_slice_mut_u8 state, struct core_slice_mut_u8 batch)
 {
@@ -4553,7 +4556,7 @@ static inline struct core_call_ask__Reply call_settle__rounds__step_round(struct
     return (struct core_call_ask__Reply){.code = 0u, .figure = 0u, .size = t10};
 }
 
-/* Writes the next `homes` homes of the round under way; with the last of them a fence, and the round is over. */
+/* Writes the next `homes` homes of the round under way; with the last of them a fence, and the round is over. [S-7, S-9, S-40] */
 static inline struct core_call_ask__Reply kagutin__kagutin_step_round(struct core_slice_u8 log, struct core_slice_mut_u8 area,
         struct core_slice_mut_u8 state, struct core_slice_mut_u8 batch, uint64_t homes)
 {
@@ -4772,7 +4775,8 @@ static inline struct core_call_ask__Reply call_store__stores__store(struct core_
     return (struct core_call_ask__Reply){.code = 0u, .figure = 0u, .size = t11};
 }
 
-/* Holds a block for a home in a writer's open transaction; a block held for another home is logged first. */
+/* Holds a block for a home in a writer's open transaction; a block held for another home is logged first. [S-7, S-9, S-29, S-30]
+   */
 static inline struct core_call_ask__Reply kagutin__kagutin_store(struct core_slice_mut_u8 log, struct core_slice_u8 area,
         struct core_slice_mut_u8 state, struct core_slice_u8 block, struct core_slice_mut_u8 batch, uint64_t writer, uint64_t home)
 {
@@ -4894,7 +4898,7 @@ static inline struct core_call_ask__Reply call_many__transacts__transact(struct 
 }
 
 /* Begins a transaction of an idle writer, stores one to seven blocks for the homes from `home` on and commits them. The figure is
-   the ticket. */
+   the ticket. [S-7, S-9, S-62] */
 static inline struct core_call_ask__Reply core_kagutin__kagutin_transact(struct core_slice_mut_u8 log, struct core_slice_u8 area,
         struct core_slice_mut_u8 state, struct core_slice_mut_u8 newest, struct core_slice_u8 blocks, struct core_slice_mut_u8 batch, uint64_t writer,
         uint64_t home)
@@ -5258,7 +5262,7 @@ static inline struct core_call_ask__Reply call_trim__trim(struct core_slice_mut_
     return (struct core_call_ask__Reply){.code = 0u, .figure = 0u, .size = 68u};
 }
 
-/* Moves the log's start up as far as no transaction lies across it. */
+/* Moves the log's start up as far as no transaction lies across it. [S-7, S-9, S-39] */
 static inline struct core_call_ask__Reply kagutin__kagutin_trim(struct core_slice_mut_u8 log, struct core_slice_u8 area,
         struct core_slice_mut_u8 state, struct core_slice_mut_u8 newest, struct core_slice_mut_u8 batch)
 {
@@ -5473,7 +5477,8 @@ static inline struct model__Usage call_usage__usage(struct core_slice_u8 log, st
     return call_usage__told(log, area, state);
 }
 
-/* Tells how many places of the log are live, dead, free and promised, and which open transaction lies lowest in it. */
+/* Tells how many places of the log are live, dead, free and promised, and which open transaction lies lowest in it. [S-7, S-9,
+   S-45] */
 static inline struct model__Usage kagutin__kagutin_usage(struct core_slice_u8 log, struct core_slice_u8 area, struct core_slice_u8 state)
 {
     return call_usage__usage(log, area, state);
@@ -6042,7 +6047,7 @@ static inline struct unit_bands_table__packed__Lookup unit_bands_table__packed__
     return (struct unit_bands_table__packed__Lookup){.code = 0u, .from = t4.from, .to = t4.to, .pumps = t4.pumps};
 }
 
-/* The row of the table that a depth in millimetres lies in; 11 above 9,999, or where there is no table. */
+/* The row of the table that a depth in millimetres lies in; 11 above 9,999, or where there is no table. [S-66] */
 static inline struct unit_bands__Band unit_bands__kagutin_bands_look_up(struct bands_slice_u8 log, struct bands_slice_u8 area,
         struct bands_slice_u8 state, struct bands_slice_u8 newest, uint64_t writer, uint64_t mm)
 {
@@ -6231,7 +6236,7 @@ static inline struct bands_call_ask__Reply bands_kagutin__kagutin_transact(struc
     return (struct bands_call_ask__Reply){.code = (uint64_t)r.code, .figure = (uint64_t)r.figure, .size = (uint64_t)r.size};
 }
 
-/* Sets the table; the figure is the ticket of its commit, with 12 and 13 the lowest millimetre in no row or in two. */
+/* Sets the table; the figure is the ticket of its commit, with 12 and 13 the lowest millimetre in no row or in two. [S-65] */
 static inline struct bands_call_ask__Reply unit_bands__kagutin_bands_set(struct bands_slice_mut_u8 log, struct bands_slice_u8 area,
         struct bands_slice_mut_u8 state, struct bands_slice_mut_u8 newest, struct bands_slice_mut_u8 batch, struct bands_slice_u8 rows, uint64_t writer)
 {
@@ -6425,7 +6430,7 @@ static inline struct unit_hours_book__Pump unit_hours_book__read(struct hours_sl
     return (struct unit_hours_book__Pump){.starts = t2, .total = t3, .last = t4, .running = t6 != 0u};
 }
 
-/* Starts of a pump and the seconds of its finished runs. */
+/* Starts of a pump and the seconds of its finished runs. [S-67] */
 static inline struct unit_hours__Hours unit_hours__kagutin_pump_hours(struct hours_slice_u8 log, struct hours_slice_u8 area,
         struct hours_slice_u8 state, struct hours_slice_u8 newest, uint64_t writer, uint64_t pump)
 {
@@ -6445,7 +6450,7 @@ static inline struct unit_hours__Hours unit_hours__kagutin_pump_hours(struct hou
     return (struct unit_hours__Hours){.code = 0u, .starts = t9.starts, .seconds = t9.total};
 }
 
-/* Whole services due of a pump, one each `interval` seconds of finished runs, and the seconds left over. */
+/* Whole services due of a pump, one each `interval` seconds of finished runs, and the seconds left over. [S-67] */
 static inline struct unit_hours__Services unit_hours__kagutin_pump_services(struct hours_slice_u8 log, struct hours_slice_u8 area,
         struct hours_slice_u8 state, struct hours_slice_u8 newest, uint64_t writer, uint64_t pump, uint64_t interval)
 {
@@ -6597,7 +6602,7 @@ static inline struct hours_call_ask__Reply hours_unit_shared__finish(struct hour
     return hours_kagutin__kagutin_transact(log, area, state, newest, blocks, batch, writer, home);
 }
 
-/* A start of a pump at a second; the figure is the ticket of its commit. */
+/* A start of a pump at a second; the figure is the ticket of its commit. [S-68] */
 static inline struct hours_call_ask__Reply unit_hours__kagutin_pump_start(struct hours_slice_mut_u8 log, struct hours_slice_u8 area,
         struct hours_slice_mut_u8 state, struct hours_slice_mut_u8 newest, struct hours_slice_mut_u8 batch, uint64_t writer, uint64_t pump,
         uint32_t second)
@@ -6649,7 +6654,7 @@ static inline uint64_t unit_hours_book__stop(struct hours_slice_mut_u8 block, ui
     return 0u;
 }
 
-/* A stop of a pump at a second, answered as a start is. */
+/* A stop of a pump at a second, answered as a start is. [S-68] */
 static inline struct hours_call_ask__Reply unit_hours__kagutin_pump_stop(struct hours_slice_mut_u8 log, struct hours_slice_u8 area,
         struct hours_slice_mut_u8 state, struct hours_slice_mut_u8 newest, struct hours_slice_mut_u8 batch, uint64_t writer, uint64_t pump,
         uint32_t second)
@@ -7162,7 +7167,7 @@ static inline struct alarms_call_ask__Reply alarms_unit_shared__finish(struct al
     return alarms_kagutin__kagutin_transact(log, area, state, newest, blocks, batch, writer, home);
 }
 
-/* An alarm arrives; the figure is the ticket of its commit. */
+/* An alarm arrives; the figure is the ticket of its commit. [S-70] */
 static inline struct alarms_call_ask__Reply unit_alarms__kagutin_alarm_arrive(struct alarms_slice_mut_u8 log, struct alarms_slice_u8 area,
         struct alarms_slice_mut_u8 state, struct alarms_slice_mut_u8 newest, struct alarms_slice_mut_u8 batch, uint64_t writer, uint16_t identity,
         uint64_t class, uint32_t second)
@@ -7210,7 +7215,7 @@ static inline uint64_t unit_alarms_list__clear(struct alarms_slice_u8 list, stru
     return 0u;
 }
 
-/* An alarm clears; the figure is the ticket of its commit. */
+/* An alarm clears; the figure is the ticket of its commit. [S-70] */
 static inline struct alarms_call_ask__Reply unit_alarms__kagutin_alarm_clear(struct alarms_slice_mut_u8 log, struct alarms_slice_u8 area,
         struct alarms_slice_mut_u8 state, struct alarms_slice_mut_u8 newest, struct alarms_slice_mut_u8 batch, uint64_t writer, uint16_t identity)
 {
@@ -7238,7 +7243,7 @@ static inline struct alarms_call_ask__Reply alarms_kagutin__kagutin_fetch(struct
     return (struct alarms_call_ask__Reply){.code = (uint64_t)r.code, .figure = (uint64_t)r.figure, .size = (uint64_t)r.size};
 }
 
-/* The gravest open alarm, as it is kept in the first home. */
+/* The gravest open alarm, as it is kept in the first home. [S-69] */
 static inline struct unit_alarms__Gravest unit_alarms__kagutin_alarm_gravest(struct alarms_slice_u8 log, struct alarms_slice_u8 area,
         struct alarms_slice_u8 state, struct alarms_slice_u8 newest, uint64_t writer)
 {

@@ -354,7 +354,7 @@ static inline struct unit_bands_table__packed__Lookup unit_bands_table__packed__
     return (struct unit_bands_table__packed__Lookup){.code = 0u, .from = t4.from, .to = t4.to, .pumps = t4.pumps};
 }
 
-/* The row of the table that a depth in millimetres lies in; 11 above 9,999, or where there is no table. */
+/* The row of the table that a depth in millimetres lies in; 11 above 9,999, or where there is no table. [S-66] */
 static inline struct unit_bands__Band unit_bands__kagutin_bands_look_up(struct slice_u8 log, struct slice_u8 area,
         struct slice_u8 state, struct slice_u8 newest, uint64_t writer, uint64_t mm)
 {
@@ -543,7 +543,7 @@ static inline struct call_ask__Reply kagutin__kagutin_transact(struct slice_mut_
     return (struct call_ask__Reply){.code = (uint64_t)r.code, .figure = (uint64_t)r.figure, .size = (uint64_t)r.size};
 }
 
-/* Sets the table; the figure is the ticket of its commit, with 12 and 13 the lowest millimetre in no row or in two. */
+/* Sets the table; the figure is the ticket of its commit, with 12 and 13 the lowest millimetre in no row or in two. [S-65] */
 static inline struct call_ask__Reply unit_bands__kagutin_bands_set(struct slice_mut_u8 log, struct slice_u8 area,
         struct slice_mut_u8 state, struct slice_mut_u8 newest, struct slice_mut_u8 batch, struct slice_u8 rows, uint64_t writer)
 {

@@ -253,7 +253,7 @@ static inline void alone_gauges__merge__write_lines(struct slice_mut_u8 output, 
     }
 }
 
-/* Reports every minute of either list once, rising, as agreeing, differing or in one list only. */
+/* Reports every minute of either list once, rising, as agreeing, differing or in one list only. [S-71] */
 static inline struct alone_gauges__Comparison alone_gauges__kagutin_compare_gauges(struct slice_u8 first, struct slice_u8 second,
         struct slice_mut_u8 report, uint16_t tolerance)
 {

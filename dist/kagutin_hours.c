@@ -149,7 +149,7 @@ static inline struct unit_hours_book__Pump unit_hours_book__read(struct slice_u8
     return (struct unit_hours_book__Pump){.starts = t2, .total = t3, .last = t4, .running = t6 != 0u};
 }
 
-/* Starts of a pump and the seconds of its finished runs. */
+/* Starts of a pump and the seconds of its finished runs. [S-67] */
 static inline struct unit_hours__Hours unit_hours__kagutin_pump_hours(struct slice_u8 log, struct slice_u8 area,
         struct slice_u8 state, struct slice_u8 newest, uint64_t writer, uint64_t pump)
 {
@@ -169,7 +169,7 @@ static inline struct unit_hours__Hours unit_hours__kagutin_pump_hours(struct sli
     return (struct unit_hours__Hours){.code = 0u, .starts = t9.starts, .seconds = t9.total};
 }
 
-/* Whole services due of a pump, one each `interval` seconds of finished runs, and the seconds left over. */
+/* Whole services due of a pump, one each `interval` seconds of finished runs, and the seconds left over. [S-67] */
 static inline struct unit_hours__Services unit_hours__kagutin_pump_services(struct slice_u8 log, struct slice_u8 area,
         struct slice_u8 state, struct slice_u8 newest, uint64_t writer, uint64_t pump, uint64_t interval)
 {
@@ -321,7 +321,7 @@ static inline struct call_ask__Reply unit_shared__finish(struct slice_mut_u8 log
     return kagutin__kagutin_transact(log, area, state, newest, blocks, batch, writer, home);
 }
 
-/* A start of a pump at a second; the figure is the ticket of its commit. */
+/* A start of a pump at a second; the figure is the ticket of its commit. [S-68] */
 static inline struct call_ask__Reply unit_hours__kagutin_pump_start(struct slice_mut_u8 log, struct slice_u8 area,
         struct slice_mut_u8 state, struct slice_mut_u8 newest, struct slice_mut_u8 batch, uint64_t writer, uint64_t pump,
         uint32_t second)
@@ -373,7 +373,7 @@ static inline uint64_t unit_hours_book__stop(struct slice_mut_u8 block, uint32_t
     return 0u;
 }
 
-/* A stop of a pump at a second, answered as a start is. */
+/* A stop of a pump at a second, answered as a start is. [S-68] */
 static inline struct call_ask__Reply unit_hours__kagutin_pump_stop(struct slice_mut_u8 log, struct slice_u8 area,
         struct slice_mut_u8 state, struct slice_mut_u8 newest, struct slice_mut_u8 batch, uint64_t writer, uint64_t pump,
         uint32_t second)

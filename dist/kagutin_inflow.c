@@ -31,7 +31,7 @@ static inline int64_t to_signed(uint64_t x)
 }
 
 /* The least and the most inflow between two moments, from the depth range at each, the pit's area and the range of pumped volume.
-   */
+   [S-72] */
 static inline struct alone_inflow__Bounds alone_inflow__kagutin_inflow(uint64_t area, uint16_t low_before, uint16_t high_before,
         uint16_t low_after, uint16_t high_after, uint32_t low_pumped, uint32_t high_pumped)
 {

@@ -157,7 +157,7 @@ struct kgt_powerloss {
 /* Lent memory: a store of this shape, four images of it and the bytes of a history, room for so many groups. */
 #define KGT_POWERLOSS_SIZE(groups, homes, written)                                                                               \
     (KGT_MEMORY_SIZE(groups, homes) + KGT_FORMAT_SIZE(groups, homes) + 4 * (KGT_LOG_SIZE(groups) + KGT_HOMES_SIZE(homes))        \
-     + (size_t)KAGUTIN_GROUP_SIZE * (written))
+     + KGT_BYTES(KAGUTIN_GROUP_SIZE) * (written))
 
 /*
  * Clears the kit and takes the memory; then set start, medium or relay, and what

@@ -40,7 +40,7 @@ struct kgt_sim {
 
 /* Three arrays of size bytes, a multiple of 64. unit is 1, 2, 4, 8 or 64. */
 void kgt_sim_init(struct kgt_sim *sim, uint8_t *memory, size_t size, size_t unit);
-#define KGT_SIM_MEMORY(size) (3 * (size_t)(size))
+#define KGT_SIM_MEMORY(size) (KGT_BYTES(3) * (size))
 
 /* For the kit. */
 struct kgt_medium kgt_sim_medium(struct kgt_sim *sim);
