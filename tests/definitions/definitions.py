@@ -111,7 +111,7 @@ def main():
         (crates / "cases/src/lib.rt").write_text("// cases\n")
         (crates / "cases/proofs/Lib.antt").write_text("pub mod Cases\n")
         (crates / "cases/proofs/Cases.antt").write_text(text)
-        (pathlib.Path(folder) / "crates.txt").write_text("model:\nabstract_store: model\nacts: model\ncases: abstract_store acts model\n")
+        (pathlib.Path(folder) / "crates.txt").write_text("model:\nabstract_store: model\nacts: abstract_store model\ncases: abstract_store acts model\n")
         told = subprocess.run(["rt", "check", "cases"], cwd=folder, capture_output=True, text=True)
     answers = collections.Counter(f"{case['call']} {case['code']}" for case in cases)
     if told.returncode != 0:
