@@ -76,6 +76,7 @@ static void check_refusals(void)
     refused(kagutin_revise(ON, blocks, BLOCKS, 1, HOMES - 1), KAGUTIN_BAD_HOME, "a revise past the last home");
     refused(kagutin_transact(ON, blocks, 100, BATCH, 1, 3), KAGUTIN_BAD_LENGTH, "a transact of a part of a block");
     refused(kagutin_transact(ON, blocks, BLOCKS, BATCH, 1, HOMES), KAGUTIN_BAD_HOME, "a transact at no home");
+    refused(kagutin_transact(ON, blocks, BLOCKS, BATCH, 1, HOMES + 1), KAGUTIN_BAD_HOME, "a transact further on");
     refused(kagutin_transact(ON, blocks, BLOCKS, BATCH, 1, 8), KAGUTIN_STORE_DENIED, "a transact on the list by writer 1");
     refused(kagutin_revise(ON, blocks, BLOCKS, 1, 8), KAGUTIN_STORE_DENIED, "a revise of the list by writer 1");
     memcpy(saved, state, sizeof state);
@@ -117,6 +118,18 @@ static void check_rights(void)
     refused(kagutin_transact(ON, blocks, 64, BATCH, 1, 2), KAGUTIN_STORE_DENIED, "and without the right");
 }
 
+/* Fewer than twelve homes: no list can be there. */
+static void check_small(void)
+{
+    size_t small = KGT_HOMES_SIZE(8), few = KGT_NEWEST_SIZE(8);
+
+    log_size = KGT_LOG_SIZE(GROUPS);
+    check(kagutin_format(log_area, log_size, area, small, BATCH).code == KAGUTIN_DONE, "a small format");
+    check(kagutin_open(log_area, log_size, area, small, STATE, newest, few, BATCH).code == KAGUTIN_DONE, "its opening");
+    check(kagutin_transact(log_area, log_size, area, small, STATE, newest, few, blocks, BLOCKS, BATCH, 5, 6).code == KAGUTIN_DONE,
+          "a transact that anyone may");
+}
+
 /* A walk in tables of each size: half a log settled, so that trim and usage look at the rest. */
 static void check_sizes(void)
 {
@@ -141,6 +154,7 @@ int main(void)
 {
     check_refusals();
     check_rights();
+    check_small();
     check_sizes();
     printf("many_check: %lu checks passed\n", checks);
     return 0;
