@@ -161,14 +161,24 @@ def number(clause):
     return int(clause[2:])
 
 
-def proof_of(name):
-    """Proof files in which something public has the statement as its type."""
-    pattern = re.compile(rf"^\s*pub \S+ :.*(?<![\w·.-]){re.escape(name)}(?![\w-])", re.M)
+def in_record(before):
+    """Whether an indented line after this text is a record's field, which is no proof."""
+    head = next((line for line in reversed(before.split("\n")) if re.match(r"\S", line) and not line.startswith("--")), "")
+    return bool(re.match(r"(?:pub )?record ", head))
+
+
+def proof_of(name, path):
+    """Proof files in which the type of something public ends in the statement of that file; the theorems before what stands on them."""
+    crate, module = re.match(r"crates/(\w+)/specs/(.*)\.antt", path).groups()
+    used = re.compile(rf"^(?:\w+ )*use Rattle.{crate}(?:·specs)?\.specs\.{re.escape(module.replace('/', '.'))}\.\{{[^}}]*(?<![\w-]){re.escape(name)}(?![\w-])", re.M)
+    ends = re.compile(rf"^[ \t]*pub \S+ :(?:.*→)?\s*{re.escape(name)}(?![\w-])[^→\n]*$(?!\n\s*→)", re.M)
     found = []
-    for path in sorted(glob.glob("crates/*/proofs/**/*.antt", recursive=True)):
-        if pattern.search(text_of(path)):
-            found.append(path)
-    return found
+    for proof in glob.glob("crates/*/proofs/**/*.antt", recursive=True):
+        text = text_of(proof)
+        if used.search(text) and any(not in_record(text[: match.start()]) for match in ends.finditer(text)):
+            owner = proof.split("/")[1]
+            found.append((owner != crate, owner != "theorems", proof))
+    return [proof for *_, proof in sorted(found)]
 
 
 def cell(items):
@@ -202,8 +212,8 @@ def table(known, found):
     for clause in sorted(known, key=number):
         of = {kind: [(p, n) for k, c, p, n in found if c == clause and k == kind] for kind in KINDS}
         proofs = []
-        for _, name in of["statement"]:
-            proofs += [f"`{short(p)}`" for p in proof_of(name)[:2]]
+        for path, name in of["statement"]:
+            proofs += [f"`{short(p)}`" for p in proof_of(name, path)[:2]]
         proofs += [f"`{short(p)}` (`{n}`)" for p, n in of["law"]]
         if not proofs and of["contract"]:
             proofs = ["the contract's own proof"]

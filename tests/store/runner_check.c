@@ -2,6 +2,7 @@
  * The object's runner (kgt_run) beside the proved one (crates/object_runner): on random batches, on words and on blocks, both make the same
  * driver calls with the same bytes, and refuse the same damaged batches.
  */
+/* Clauses: [S-82, S-85] */
 #include <stdio.h>
 #include <stdlib.h>
 #include <string.h>

@@ -4,7 +4,7 @@
  * call in turn, a full log. Arguments: every so many bytes (1: all), rounds of
  * words, and of blocks.
  */
-/* Clauses: [S-54, S-57, S-73, S-82] */
+/* Clauses: [S-45, S-46, S-54, S-57, S-73, S-76, S-82] */
 #include <stdio.h>
 #include <stdlib.h>
 #include <string.h>

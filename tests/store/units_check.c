@@ -4,7 +4,7 @@
  * units_check --image FILE DAYS PUMPS, which makes an image with the events of so
  * many days.
  */
-/* Clauses: [S-80] */
+/* Clauses: [S-80, S-87] */
 #include <stdio.h>
 #include <stdlib.h>
 #include <string.h>
