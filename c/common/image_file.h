@@ -29,8 +29,8 @@ struct image_file {
     bool dump;
     unsigned copy;                    /* of a dump: the copy that counts, 0 or 1 */
     enum image_file_header the_other; /* of a dump: the other copy */
-    uint64_t
-        found; /* no store begins at the base: where in the file a dump's header stands, to be named in a message; 0 if nowhere */
+    bool elsewhere; /* no store begins at the base, and one does elsewhere, where found says: to be named in a message */
+    uint64_t found;
     char message[320];
 };
 
