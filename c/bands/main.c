@@ -24,7 +24,8 @@ static const char help[] =
     "  --base N     where the store begins in a dump (0)\n"
     "  -h, --help, --version\n"
     "show and at leave the image as it is, and so does a set that is refused.\n"
-    "Status: 0 done, 1 the table is refused, or there is none, 2 wrong options, 3 a file cannot be read or written.\n";
+    "Status: 0 done, 1 the table is refused, or there is none, 2 wrong options, 3 a file cannot be read or written or has a\n"
+    "bad line.\n";
 
 enum { ANY_WRITER = KAGUTIN_WRITERS };
 

@@ -48,7 +48,7 @@ static bool read_number(struct table *table, unsigned long line, const char *nam
     errno = 0;
     *number = strtoul(*text, &end, 10);
     if (**text < '0' || **text > '9' || (*end && !strchr(" \t", *end))) {
-        snprintf(what, sizeof what, "%s is not a whole number", name);
+        snprintf(what, sizeof what, "%s is not a whole number; a row is: from to pumps, with blanks between", name);
         return say_at(table, line, what);
     }
     if (errno || *number > UINT16_MAX) {
@@ -97,7 +97,9 @@ static bool read_rows(struct table *table, FILE *file)
     while ((read = text_line_read(file, text, sizeof text)) != TEXT_END) {
         line++;
         if (read != TEXT_LINE)
-            return say_at(table, line, read == TEXT_LONG ? "the line is too long" : "a zero byte, no text");
+            return say_at(table, line,
+                          read == TEXT_LONG ? "the line is too long"
+                                            : "a zero byte, no text; the image is given first, then the table");
         if (!is_blank(text) && !read_row(table, line, text))
             return false;
     }

@@ -66,8 +66,8 @@ static bool check_shape(struct copy *copy, const char *path, const struct image_
     copy->homes = number16(copy->image + 10);
     size = KGT_LOG_SIZE(copy->groups) + KGT_HOMES_SIZE(copy->homes);
     if (file->dump ? file->size < size : file->size != size)
-        return say(copy, "%s: %llu bytes; %lu groups and %lu homes take %lu", path, (unsigned long long)file->size,
-                   (unsigned long)copy->groups, (unsigned long)copy->homes, (unsigned long)size);
+        return say(copy, "%s: %s file: %llu bytes; %lu groups and %lu homes take %lu", path, file->size < size ? "short" : "long",
+                   (unsigned long long)file->size, (unsigned long)copy->groups, (unsigned long)copy->homes, (unsigned long)size);
     return true;
 }
 

@@ -48,8 +48,9 @@ static bool check_shape(struct homes *homes, const char *path, const struct imag
                    (unsigned long)homes->homes);
     size = (uint64_t)HEADER + GROUP * homes->groups + BLOCK * homes->homes;
     if (file->dump ? file->size < size : file->size != size)
-        return say(homes, "%s: %llu bytes; %lu groups and %lu homes take %llu", path, (unsigned long long)file->size,
-                   (unsigned long)homes->groups, (unsigned long)homes->homes, (unsigned long long)size);
+        return say(homes, "%s: %s file: %llu bytes; %lu groups and %lu homes take %llu", path,
+                   file->size < size ? "short" : "long", (unsigned long long)file->size, (unsigned long)homes->groups,
+                   (unsigned long)homes->homes, (unsigned long long)size);
     return true;
 }
 

@@ -133,19 +133,58 @@ static bool read_bytes(struct image_file *file, const char *path, int descriptor
     return true;
 }
 
-/* The first place where a copy of a dump's header stands, of this format or the older one. */
-static void look_for_store(struct image_file *file)
+/* ---- a store that begins elsewhere ---- */
+
+/* Does a whole copy of a dump's header stand here, of this format or the older one? */
+static bool is_copy(const uint8_t *bytes)
+{
+    return bytes[0] == 0x50 && (bytes[1] == 0x54 || bytes[1] == 0x48) && whole(bytes);
+}
+
+/* Can the two be copies of one header, torn or whole? Then they have the same mark, groups and homes. */
+static bool are_alike(const uint8_t *one, const uint8_t *other)
+{
+    return memcmp(one, other, 2) == 0 && memcmp(one + 8, other + 8, USED - 8) == 0;
+}
+
+/* Names the first store that has a whole copy of its header among these bytes of the file, of which 32 before it are seen. */
+static bool find_store(struct image_file *file, const uint8_t *bytes, size_t size, uint64_t from)
 {
     size_t at;
 
-    for (at = 1; at + HEADER <= file->read; at++) {
-        const uint8_t *bytes = file->bytes + at;
-
-        if (bytes[0] == 0x50 && (bytes[1] == 0x54 || bytes[1] == 0x48) && whole(bytes)) {
-            file->found = file->base + at;
-            return;
+    for (at = from ? COPY : 0; at + COPY <= size; at++)
+        if (is_copy(bytes + at)) {
+            file->elsewhere = true;
+            file->found = from + at - (at >= COPY && are_alike(bytes + at - COPY, bytes + at) ? COPY : 0);
+            return true;
         }
-    }
+    return false;
+}
+
+/* Looks for a store from a header's length before the base on. */
+static void look_for_store(struct image_file *file, int descriptor)
+{
+    uint8_t around[3 * HEADER];
+    uint64_t from = file->base > HEADER + COPY ? file->base - HEADER - COPY : 0;
+    ssize_t size = pread(descriptor, around, sizeof around, (off_t)from);
+
+    if (size <= 0 || !find_store(file, around, (size_t)size, from))
+        find_store(file, file->bytes, file->read, file->base);
+}
+
+/* Is the base one copy of a header too late or too early? Everything would be read 32 bytes off. */
+static bool is_off(struct image_file *file, int descriptor)
+{
+    uint8_t near[4 * COPY] = {0}, *here = near + COPY;
+    size_t before = file->base < COPY ? 0 : COPY;
+    bool late, early;
+
+    if (pread(descriptor, here - before, 3 * COPY + before, (off_t)(file->base - before)) < 0)
+        return false;
+    late = before && is_copy(here) && are_alike(here - COPY, here);
+    early = !late && is_copy(here + COPY) && !are_alike(here, here + COPY) && are_alike(here + COPY, here + 2 * COPY);
+    file->found = late ? file->base - COPY : file->base + COPY;
+    return late || early;
 }
 
 /* Is this a dump's header, damaged in both copies? Most bytes of one of them then fit their complements. */
@@ -164,11 +203,14 @@ static bool is_damaged_dump(const uint8_t *copies)
 
 const char *image_file_hint(const struct image_file *file, char text[IMAGE_FILE_HINT])
 {
+    uint64_t away = file->found < file->base ? file->base - file->found : file->found - file->base;
+    bool near = file->elsewhere && away < HEADER; /* a base that is a little wrong shows most of a header, too */
+
     text[0] = '\0';
-    if (!file->dump && is_damaged_dump(file->bytes))
+    if (!near && !file->dump && is_damaged_dump(file->bytes))
         snprintf(text, IMAGE_FILE_HINT,
                  "; a dump whose header is damaged in both copies, which 'kagutin inspect' reads all the same");
-    else if (file->found)
+    else if (file->elsewhere)
         snprintf(text, IMAGE_FILE_HINT, "; a store begins at byte %llu: --base %llu", (unsigned long long)file->found,
                  (unsigned long long)file->found);
     return text;
@@ -190,12 +232,15 @@ static bool read_file(struct image_file *file, const char *path, int descriptor,
     if (file->base >= (uint64_t)status.st_size)
         return say(file, "%s: it has %lld bytes, and none from %llu on", path, (long long)status.st_size,
                    (unsigned long long)base);
+    if (is_off(file, descriptor))
+        return say(file, "%s: the store begins at byte %llu, not at %llu: --base %llu", path, (unsigned long long)file->found,
+                   (unsigned long long)file->base, (unsigned long long)file->found);
     file->size = (uint64_t)status.st_size - file->base;
     if (!read_bytes(file, path, descriptor))
         return false;
     join_header(file);
-    if (!file->dump && !is_image(file->bytes))
-        look_for_store(file);
+    if (!is_image(file->bytes))
+        look_for_store(file, descriptor);
     return true;
 }
 

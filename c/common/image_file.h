@@ -29,8 +29,8 @@ struct image_file {
     bool dump;
     unsigned copy;                    /* of a dump: the copy that counts, 0 or 1 */
     enum image_file_header the_other; /* of a dump: the other copy */
-    uint64_t
-        found; /* no store begins at the base: where in the file a dump's header stands, to be named in a message; 0 if nowhere */
+    bool elsewhere; /* no store begins at the base, and one does elsewhere, where found says: to be named in a message */
+    uint64_t found;
     char message[320];
 };
 
@@ -41,7 +41,8 @@ enum image_file_use { IMAGE_FILE_FREE, IMAGE_FILE_IN_USE };
  * Reads a regular file from a base on; false leaves a message. Files of any
  * size are read, up to the largest image; what the bytes are is not asked. An
  * image begins where its file does: the base is passed over if no dump's header
- * stands there and an image's stands at 0.
+ * stands there and an image's stands at 0. A base that is 32 bytes off, at or
+ * before one copy of a dump's header, is refused with the right one.
  */
 bool image_file_read(struct image_file *file, const char *path, uint64_t base, enum image_file_use use);
 

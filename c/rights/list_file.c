@@ -108,7 +108,9 @@ static bool read_rows(struct reader *reader, FILE *file)
     while ((read = text_line_read(file, text, sizeof text)) != TEXT_END) {
         reader->line++;
         if (read != TEXT_LINE)
-            return say(reader, read == TEXT_LONG ? "the line is too long" : "a zero byte, no text");
+            return say(reader,
+                       read == TEXT_LONG ? "the line is too long"
+                                         : "a zero byte, no text; the image is given first, then the list");
         if (!read_row(reader, text))
             return false;
     }

@@ -19,11 +19,12 @@ static const char help[] =
     "  clear   takes the list away: every home but 8 to 11 is then open to all\n"
     "  --base N   where the store begins in a dump (0)\n"
     "  -h, --help, --version\n"
-    "A set that is refused leaves the image as it is. A line of the file is: W store HOMES, or W read HOMES, for a writer from 0 "
-    "to 7; HOMES are up to four of HOME,\n"
+    "A line of the file is: W store HOMES, or W read HOMES, for a writer from 0 to 7; HOMES are up to four of HOME,\n"
     "FROM..TO or all. # begins a comment. A list that lets a writer touch no home is refused, unless a line says\n"
     "W nothing. All read homes 8 to 11, and only writer 0 stores there, whatever the list says.\n"
-    "Status: 0 done, 1 the list is refused, or there is none, 2 wrong options, 3 a file cannot be read or written.\n";
+    "A set that is refused leaves the image as it is.\n"
+    "Status: 0 done, 1 the list is refused, or there is none, 2 wrong options, 3 a file cannot be read or written or has a\n"
+    "bad line.\n";
 
 static uint64_t base;
 

@@ -42,7 +42,7 @@ static void print_pumps(const struct pump pumps[KAGUTIN_PUMPS])
     for (i = 1; i < KAGUTIN_PUMPS; i++)
         if (pumps[i].seconds > pumps[most].seconds)
             most = i;
-    printf("\nWear sheet, a service each %d hours\n", SERVICE_HOURS);
+    printf("\nWear sheet of finished runs, a service each %d hours\n", SERVICE_HOURS);
     puts("  pump    starts       run time  seconds a start  services due");
     for (i = 0; i < KAGUTIN_PUMPS; i++)
         printf("  %4u  %8llu %5lluh %02llum %02llus  %15llu  %12llu%s\n", i, pumps[i].starts, pumps[i].seconds / 3600,

@@ -78,10 +78,21 @@ if there g++ "the Arduino example"; then
     gives 0 "arduino: library compiled" "${CC:-cc}" -O1 -I$library/src -c $library/src/kagutin_all.c -o "$tmp/arduino.o"
     gives 0 "arduino: example built" g++ -std=gnu++11 -Wall -Wextra -Itests/build/arduino -I$library/examples/Counter -I$library/src \
         tests/build/arduino/main.cpp "$tmp/arduino.o" -o "$tmp/sketch"
-    for start in 1 2 3; do
-        FRAM="$tmp/chip" gives 0 "arduino: start $start" "$tmp/sketch"
-        [ "$(cat "$tmp/out")" = $start ]; report $? "arduino: it counts $start"
-    done
+    sketch() { # what it prints, name, what stands in the environment
+        printed=$1 name=$2; shift 2
+        gives 0 "arduino: $name" env FRAM="$tmp/chip" "$@" "$tmp/sketch"
+        [ "$(cat "$tmp/out")" = "$printed" ]; report $? "arduino: it prints $printed"
+    }
+    sketch 0 "a new chip that nobody asks to format"
+    sketch 1 "a new chip, the pin low" PIN_LOW=9
+    sketch 2 "the pin still low" PIN_LOW=9
+    sketch 3 "the pin high"
+    cp "$tmp/chip" "$tmp/chip.before"
+    printf 'X' | dd of="$tmp/chip" bs=1 conv=notrunc 2> /dev/null
+    printf 'X' | dd of="$tmp/chip" bs=1 seek=32 conv=notrunc 2> /dev/null
+    sketch 0 "a damaged header"
+    dd if="$tmp/chip.before" of="$tmp/chip" bs=64 count=1 conv=notrunc 2> /dev/null
+    sketch 4 "nothing was formatted"
 fi
 
 # --- make install: prefixes with spaces and relative ones, a library folder of its own, units by pkg-config ---

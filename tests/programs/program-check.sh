@@ -135,6 +135,20 @@ cat "$tmp/station.bin" "$tmp/again.bin" > "$tmp/twice.bin"
 base=$(wc -c < "$tmp/station.bin")
 gives 0 "the second store of a chip" "$k" convert --base "$base" "$tmp/twice.bin" "$tmp/second.img"
 gives 0 "is that of the base" cmp "$tmp/second.img" "$tmp/again.img"
+# A base that is a little wrong gives no other homes, and the message has the right one.
+for off in -32 32; do
+    says "the store begins at byte $base, not at $((base + off)): --base $base" 3 "a base off by $off" "$k" rights show --base $((base + off)) "$tmp/twice.bin"
+done
+for off in -33 -1 1 12 31 33 63 95; do
+    says "a store begins at byte $base: --base $base" 3 "a base off by $off" "$k" rights show --base $((base + off)) "$tmp/twice.bin"
+done
+says "the store begins at byte 0, not at 32" 3 "the second copy of a header" "$k" inspect --base 32 "$tmp/again.bin"
+cp "$tmp/twice.bin" "$tmp/worn.bin"
+printf '\001' | dd of="$tmp/worn.bin" bs=1 seek=$((base + 13)) conv=notrunc 2> /dev/null
+for off in -32 -1 1 33; do
+    says "a store begins at byte $base: --base $base" 3 "a first copy that is torn, a base off by $off" "$k" alarms --base $((base + off)) "$tmp/worn.bin"
+done
+gives 0 "a first copy that is torn" "$k" alarms --base "$base" "$tmp/worn.bin"
 # What a reader prints of a file is what it prints of a dump, at 0 or at a base.
 same() {
     sed -e "s/\($1\)\.[a-z]*/xxx/" -e 's/[0-9]* bytes$//' -e '/^dump /d' -e 's/"bytes":.*"dump":.*,$//' "$tmp/out" | cmp - "$tmp/image.out" > "$tmp/log" 2>&1; report $? "the same"

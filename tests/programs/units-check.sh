@@ -93,7 +93,7 @@ says "cannot be opened" 3 "a missing image" "$san/bands" show "$tmp/missing.img"
 says "cannot be opened" 3 "a missing table" "$san/bands" set "$tmp/north.img" "$tmp/missing.txt"
 says "no image" 3 "no image" "$san/bands" show "$tmp/table.txt"
 head -c 9000 "$tmp/north.img" > "$tmp/short.img"
-says "9000 bytes; 16 groups and 32 homes take 10304" 3 "a short image" "$san/bands" show "$tmp/short.img"
+says "short file: 9000 bytes; 16 groups and 32 homes take 10304" 3 "a short image" "$san/bands" show "$tmp/short.img"
 gives 0 "--help" "$san/bands" --help
 gives 0 "--version" "$san/bands" --version
 shows '^bands (Kagutin) [0-9]'

@@ -1,4 +1,4 @@
-// Stands in for Arduino's headers: a serial FRAM of 32 KiB behind SPI, kept in the file that FRAM names.
+// Stands in for Arduino's headers: a serial FRAM of 32 KiB behind SPI, kept in the file that FRAM names. A pin is low if PIN_LOW has its number.
 #pragma once
 #include <cstddef>
 #include <cstdint>
@@ -6,7 +6,7 @@
 #include <cstdlib>
 #include <cstring>
 
-enum { LOW, HIGH, OUTPUT, MSBFIRST, SPI_MODE0 };
+enum { LOW, HIGH, OUTPUT, INPUT_PULLUP, MSBFIRST, SPI_MODE0 };
 
 struct SPISettings {
     SPISettings(unsigned long, int, int)
@@ -71,4 +71,9 @@ static void pinMode(int, int)
 }
 static void digitalWrite(int, int)
 {
+}
+static int digitalRead(int pin)
+{
+    const char *low = std::getenv("PIN_LOW");
+    return low && std::atoi(low) == pin ? LOW : HIGH;
 }
