@@ -1,0 +1,117 @@
+/*
+ * More groups between two fences than first words may wait (KGT_HEADS), on a
+ * medium that keeps words: the object then fences and writes the words that
+ * wait before the next group. Power goes after every few bytes, and of the words
+ * since the last fence none, all or any arrive; what comes back is a prefix of
+ * the commits, whole, and all of them once a sync is done.
+ */
+/* Clauses: [S-54, S-55, S-57, S-82] */
+#include <stdio.h>
+#include <stdlib.h>
+#include <string.h>
+
+#include "kagutin_memory.h"
+
+enum { GROUPS = 48, HOMES = 8, COMMITS = 2 * KGT_HEADS + 5, BLOCKS = KAGUTIN_GROUP_ENTRIES };
+
+static uint8_t memory[KGT_MEMORY_SIZE(GROUPS, HOMES)], scratch[KGT_FORMAT_SIZE(GROUPS, HOMES)];
+static uint8_t lasting[KGT_LOG_SIZE(GROUPS) + KGT_HOMES_SIZE(HOMES)], written[sizeof lasting], formatted[sizeof lasting];
+static struct kgt_memory medium;
+static struct kagutin store;
+static uint64_t chance = 1;
+
+static void check(bool right, const char *what, unsigned long at)
+{
+    if (right)
+        return;
+    printf("heads_check: wrong: %s, at %lu\n", what, at);
+    exit(1);
+}
+
+static void power_on(void)
+{
+    kgt_memory_init(&medium, lasting, written, GROUPS, HOMES);
+    check(kgt_init(&store, memory, sizeof memory, GROUPS, HOMES, kgt_memory_driver(&medium)).code == KAGUTIN_DONE, "init", 0);
+}
+
+/* Each commit fills one group; how many were committed, and whether the sync behind them was done. */
+static unsigned long work(bool *synced)
+{
+    uint8_t block[KAGUTIN_BLOCK_SIZE];
+    unsigned long done;
+    uint64_t home;
+
+    for (done = 0; done < COMMITS; done++) {
+        memset(block, (int)done + 1, sizeof block);
+        if (kgt_begin(&store, 0).code != KAGUTIN_DONE)
+            break;
+        for (home = 0; home < BLOCKS; home++)
+            if (kgt_store(&store, 0, home, block).code != KAGUTIN_DONE)
+                return done;
+        if (kgt_commit(&store, 0).code != KAGUTIN_DONE)
+            break;
+    }
+    *synced = done == COMMITS && kgt_sync(&store).code == KAGUTIN_DONE;
+    return done;
+}
+
+static bool by_chance(void *context, size_t at)
+{
+    (void)context;
+    (void)at;
+    chance = chance * 6364136223846793005u + 1442695040888963407u;
+    return chance >> 59 != 0; /* one of 32 is lost: most groups come close to whole */
+}
+
+static bool none(void *context, size_t at)
+{
+    (void)context;
+    (void)at;
+    return false;
+}
+
+/* After a cut: all homes are of one commit, of none that was not asked for, and of the last if it was synced. */
+static void look(unsigned long at, bool synced)
+{
+    uint8_t block[KAGUTIN_BLOCK_SIZE], whole[KAGUTIN_BLOCK_SIZE], first = 0;
+    uint64_t home;
+
+    check(kgt_open(&store).code == KAGUTIN_DONE, "an opening", at);
+    for (home = 0; home < BLOCKS; home++) {
+        check(kgt_read(&store, 1, home, block).code == KAGUTIN_DONE, "a read", at);
+        if (home == 0)
+            first = block[0];
+        memset(whole, first, sizeof whole);
+        check(memcmp(block, whole, sizeof block) == 0, "homes of one commit", at);
+    }
+    check(first <= COMMITS && (!synced || first == COMMITS), "which commits are back", at);
+}
+
+static void check_cuts(bool (*lands)(void *context, size_t at), unsigned every, const char *what)
+{
+    unsigned long at, cuts = 0;
+    bool synced = false;
+
+    for (at = 0; !synced; at += every, cuts++) {
+        memcpy(lasting, formatted, sizeof lasting);
+        power_on();
+        check(kgt_open(&store).code == KAGUTIN_DONE, "the first opening", at);
+        kgt_memory_stop_after(&medium, at);
+        work(&synced);
+        kgt_memory_cut(&medium, lands, NULL);
+        kgt_memory_stop_after(&medium, UINT64_MAX);
+        look(at, synced);
+    }
+    printf("heads_check: %lu cuts, %s of the words since the last fence\n", cuts, what);
+}
+
+int main(void)
+{
+    power_on();
+    check(kgt_format(&store, scratch, sizeof scratch).code == KAGUTIN_DONE, "a format", 0);
+    memcpy(formatted, lasting, sizeof formatted);
+    check_cuts(none, 41, "none");
+    check_cuts(NULL, 43, "all");
+    check_cuts(by_chance, 5, "any");
+    return 0;
+}
