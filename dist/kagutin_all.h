@@ -113,7 +113,7 @@ enum kagutin_answer {
     KAGUTIN_DONE = 0,
     KAGUTIN_BAD_LENGTH = 1,        /* a lent length is wrong */
     KAGUTIN_BAD_STATE = 2,         /* the state is out of order, or of other areas */
-    KAGUTIN_BAD_HEADER = 3,        /* open: the log's header is not one */
+    KAGUTIN_BAD_HEADER = 3,        /* open: no store there: not formatted, of another shape or format, or damaged */
     KAGUTIN_BAD_WRITER = 4,        /* writer above 7 */
     KAGUTIN_BAD_HOME = 5,          /* home not below D */
     KAGUTIN_NOT_IDLE = 6,          /* begin, reserve: the writer has one open */
@@ -206,7 +206,7 @@ static inline const char *kagutin_answer_text(uint64_t code)
     case KAGUTIN_DONE: return "done";
     case KAGUTIN_BAD_LENGTH: return "a lent length is wrong";
     case KAGUTIN_BAD_STATE: return "the state is out of order";
-    case KAGUTIN_BAD_HEADER: return "the log's header is not one";
+    case KAGUTIN_BAD_HEADER: return "no store there: not formatted, of another shape or format, or damaged";
     case KAGUTIN_BAD_WRITER: return "no such writer";
     case KAGUTIN_BAD_HOME: return "no such home";
     case KAGUTIN_NOT_IDLE: return "the writer has a transaction open";
@@ -750,8 +750,8 @@ struct kgt_mark kgt_sync(struct kagutin *store);
 /*
  * Commit and sync in one. Done: the commit is durable. Refused with the commit's
  * answers, the transaction is as after a refused commit, and ticket is
- * KGT_NOT_TOLD. 18 with a ticket: committed, and durable once a later sync's
- * mark reaches it. [S-74]
+ * KGT_NOT_TOLD. 18 with a ticket, or 10 (worn out): committed, and durable once a
+ * later sync's mark reaches it. [S-74]
  */
 struct kgt_ticket kgt_commit_sync(struct kagutin *store, uint64_t writer);
 

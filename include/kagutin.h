@@ -103,7 +103,7 @@ enum kagutin_answer {
     KAGUTIN_DONE = 0,
     KAGUTIN_BAD_LENGTH = 1,        /* a lent length is wrong */
     KAGUTIN_BAD_STATE = 2,         /* the state is out of order, or of other areas */
-    KAGUTIN_BAD_HEADER = 3,        /* open: the log's header is not one */
+    KAGUTIN_BAD_HEADER = 3,        /* open: no store there: not formatted, of another shape or format, or damaged */
     KAGUTIN_BAD_WRITER = 4,        /* writer above 7 */
     KAGUTIN_BAD_HOME = 5,          /* home not below D */
     KAGUTIN_NOT_IDLE = 6,          /* begin, reserve: the writer has one open */
@@ -196,7 +196,7 @@ static inline const char *kagutin_answer_text(uint64_t code)
     case KAGUTIN_DONE: return "done";
     case KAGUTIN_BAD_LENGTH: return "a lent length is wrong";
     case KAGUTIN_BAD_STATE: return "the state is out of order";
-    case KAGUTIN_BAD_HEADER: return "the log's header is not one";
+    case KAGUTIN_BAD_HEADER: return "no store there: not formatted, of another shape or format, or damaged";
     case KAGUTIN_BAD_WRITER: return "no such writer";
     case KAGUTIN_BAD_HOME: return "no such home";
     case KAGUTIN_NOT_IDLE: return "the writer has a transaction open";

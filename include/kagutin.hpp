@@ -4,7 +4,8 @@
  * kagutin_store.h; no heap, no exceptions, no old-style casts. Replies are those
  * of the C calls, and what these promise holds here.
  *
- * tests/store/wrapper_check.cpp is a whole program.
+ * In the repository tests/store/wrapper_check.cpp is a whole program. Compile
+ * kagutin_all.c, or the C files, as C.
  */
 #ifndef KAGUTIN_HPP
 #define KAGUTIN_HPP

@@ -320,8 +320,8 @@ struct kgt_mark kgt_sync(struct kagutin *store);
 /*
  * Commit and sync in one. Done: the commit is durable. Refused with the commit's
  * answers, the transaction is as after a refused commit, and ticket is
- * KGT_NOT_TOLD. 18 with a ticket: committed, and durable once a later sync's
- * mark reaches it. [S-74]
+ * KGT_NOT_TOLD. 18 with a ticket, or 10 (worn out): committed, and durable once a
+ * later sync's mark reaches it. [S-74]
  */
 struct kgt_ticket kgt_commit_sync(struct kagutin *store, uint64_t writer);
 
