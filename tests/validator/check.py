@@ -19,7 +19,7 @@ import sys
 import tempfile
 import time
 
-from subjects import ROOT, TARGETS, Failed, generate, machine_code, refusal, refusals, refused_somewhere, same_behaviour, text_of, write
+from subjects import ROOT, TARGETS, Failed, build, generate, machine_code, refusal, refusals, refused_somewhere, same_behaviour, text_of, write
 
 from equivalent import EQUIVALENT  # noqa: E402
 from faults import FAULTS  # noqa: E402
@@ -60,7 +60,9 @@ def random_program(seed, mutants):
         for k in range(mutants):
             name, wrong, what = mutant(rng, text, functions(text))
             write(f'{folder}/wrong.c', wrong)
-            if refusal(program, words, f'{folder}/wrong.c', folder, target, [name]):
+            if not build(folder, f'{folder}/wrong.c', f'built{k}'):  # a wrong type where no input leads, say
+                counts['no C'] = counts.get('no C', 0) + 1
+            elif refusal(program, words, f'{folder}/wrong.c', folder, target, [name]):
                 counts['refused'] += 1
             elif same_behaviour(folder, path, f'{folder}/wrong.c', f'wrong{k}'):
                 counts['do the same'] += 1
