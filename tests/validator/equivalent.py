@@ -7,4 +7,8 @@ EQUIVALENT = {
         'where both are equal b - a and a - b are both 0',
     ('base_codec__turns__copy_with_top_bit', '+ (uint8_t)((uint32_t)128u * (uint8_t)bit));  ->  - (uint8_t)((uint32_t)128u * (uint8_t)bit));'):
         'what is added is 0 or 128, the sum becomes a byte, and 128 more or less is the same modulo 256',
+    ('call_usage__rest', 'if (places < used) {  ->  if (places <= used) {'):
+        'where both are equal their difference, too, is 0',
+    ('log_scan__commits__skipped', 'if (first < position) {  ->  if (first <= position) {'):
+        'the same',
 }
