@@ -4,3 +4,4 @@ pub mod GoesOnHolds
 pub mod ExampleHolds
 -- The code does what the definition says.
 pub mod ActionLaws
+pub mod WaitingLaws
