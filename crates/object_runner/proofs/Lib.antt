@@ -5,3 +5,5 @@ pub mod ExampleHolds
 -- The code does what the definition says.
 pub mod ActionLaws
 pub mod WaitingLaws
+pub mod DueSteps
+pub mod CallWrites

@@ -29,6 +29,10 @@ waiting-append l W (HW home block ∷ rs) ss = waiting-append l W rs ss
 waiting-append l W (KW header ∷ rs) ss = waiting-append l W rs ss
 waiting-append l W (FN ∷ rs) ss = waiting-append l [] rs ss
 
+pub waiting-one : (l : Grain) (W : List Motion) (slot : ℕ) (group : List ℕ) → waitingAfter l W (GW slot group ∷ []) ≡ W ++ head l slot group
+unfolding waitingAfter
+waiting-one l W slot group = refl
+
 pub waiting-fence : (l : Grain) (W : List Motion) (rs : List Record) → waitingAfter l W (rs ++ (FN ∷ [])) ≡ []
 unfolding waitingAfter
 waiting-fence l W rs = waiting-append l W rs (FN ∷ [])
@@ -107,6 +111,10 @@ copy-word log slot =
 
 abbrev pub wordAt : ℕ → List ℕ → ℕ → Motion
 wordAt G log n = put (toLog (groupOffset (n % G)) (part log (groupOffset (n % G)) 8))
+
+pub no-words : (G : ℕ) (log : List ℕ) (headed : ℕ) → wordsFrom G log headed 0 ≡ []
+unfolding wordsFrom
+no-words G log headed = refl
 
 pub length-words : (G : ℕ) (log : List ℕ) (headed n : ℕ) → length (wordsFrom G log headed n) ≡ n
 unfolding wordsFrom
