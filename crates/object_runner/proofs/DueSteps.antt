@@ -186,8 +186,8 @@ module _ (G D : ℕ) (w : World) (r : Running G D w) (j : Waits G w) (c : Call) 
           ∙ ap (λ (y : ℕ). wordsFrom G (e .log) h (next - h) ++ (wordAt G (e .log) y ∷ [])) m ∙ words-more G (e .log) h (next - h)
           ∙ ap (wordsFrom G (e .log) h) n
 
-  low : h ≤ next′
-  low = omega (arith, next-grows, headed-next G D w r)
+  pub next-low : h ≤ next′
+  next-low = omega (arith, next-grows, headed-next G D w r)
 
   pub due-words : Due words G (e .log) next′ h (waitingOf w) (e .records)
   due-words = subst (Due words G (e .log) next′ h (waitingOf w)) (sym (x .is)) (go (x .last))
@@ -213,7 +213,7 @@ module _ (G D : ℕ) (w : World) (r : Running G D w) (j : Waits G w) (c : Call) 
   at-next q = omega (arith, headed-next G D (after w c e) r′, ap length (none-waits q))
 
   at-same : x .last ≡ false → headedOf (after w c e) ≡ h
-  at-same q = omega (arith, headed-next G D (after w c e) r′, ap length (some-wait q), length-words G (e .log) h (next′ - h), low)
+  at-same q = omega (arith, headed-next G D (after w c e) r′, ap length (some-wait q), length-words G (e .log) h (next′ - h), next-low)
 
   pub waits-on : Waits G (after w c e)
   waits-on = go (x .last) refl
@@ -228,5 +228,5 @@ module _ (G D : ℕ) (w : World) (r : Running G D w) (j : Waits G w) (c : Call) 
   headed-on = ap (headedAfter words h next′) (x .is) ∙ go (x .last) refl
     where
       go : (t : Bool) → x .last ≡ t → headedAfter words h next′ (x .pre ++ cond t (FN ∷ []) []) ≡ headedOf (after w c e)
-      go true q = headed-fence words h next′ (x .pre) no-fence ∙ (unfold headedAt in omega (arith, at-next q, low))
+      go true q = headed-fence words h next′ (x .pre) no-fence ∙ (unfold headedAt in omega (arith, at-next q, next-low))
       go false q = ap (headedAfter words h next′) (append-nil (x .pre)) ∙ headed-quiet words h next′ (x .pre) no-fence ∙ sym (at-same q)

@@ -7,3 +7,4 @@ pub mod ActionLaws
 pub mod WaitingLaws
 pub mod DueSteps
 pub mod CallWrites
+pub mod DueHolds
