@@ -40,7 +40,7 @@ use Rattle.object_runner.specs.Moves.{wordsFrom, wordsDue, headedAt, hea
 use Rattle.object_runner.specs.Always.{batchOf, recordsOf, nextOf, headedBefore, BatchDue, DueAlways}
 use Rattle.object_runner.proofs.GoesOnHolds.{blocks-due}
 use Rattle.object_runner.proofs.WaitingLaws.{waiting-append, waiting-blocks, no-words}
-use Rattle.object_runner.proofs.DueSteps.{headedOf, waitingOf, Waits, headed-next, Written, due-words, waits-on, headed-on, next-low}
+use Rattle.object_runner.proofs.DueSteps.{headedOf, waitingOf, Waits, headed-next, Written, due-words, waits-on, headed-on, next-low, next-mono}
 use Rattle.object_runner.proofs.CallWrites.{Inside, fitting-formed, homes-inside, Wrote, call-wrote}
 
 -- ---- records that read back
@@ -170,6 +170,7 @@ pub record Moment (G D : ℕ) (w : World) (c : Call) : Type 0 where
   pub records : recordsOf (ends w c) ≡ rowOf w c .effect .records
   pub state : ends w c .state ≡ rowOf w c .effect .state
   pub waits : Waits G (step w (call c))
+  pub grows : isOpening c ≡ false → stateOf (w .state) .next ≤ nextOf (ends w c)
 
 pub running : (G D : ℕ) (w : World) → Invariant G D w → w .ready ≡ true → Running G D w
 running G D w (inl k) h = absurd (false≢true (sym (k .ready) ∙ h))
@@ -195,6 +196,7 @@ module _ (G D : ℕ) (z : Sizes G D) (w : World) (i : Invariant G D w) (j : Wait
         records = k .records;
         state = k .state;
         waits = rw (k .world) (waits-on G D w r y c E r′ (x .written));
+        grows = λ q. rw (next-is words G D w c k) (next-mono G D w r y c E r′ (x .written));
       }
     where
       x : Wrote G D w c
@@ -288,6 +290,7 @@ module _ (G D : ℕ) (z : Sizes G D) (w : World) (q : Closed G D w) (state newes
         records = k₀ .records;
         state = k₀ .state;
         waits = rw (k₀ .world) (none₀ ∙ sym (ap (wordsFrom G (E₀ .log) (headedOf u₀)) (omega (arith, at-next₀)) ∙ no-words G (E₀ .log) (headedOf u₀)));
+        grows = λ p. absurd (false≢true (unfold isOpening in sym p));
       }
 
 -- ---- every call, and every history

@@ -8,3 +8,4 @@ pub mod WaitingLaws
 pub mod DueSteps
 pub mod CallWrites
 pub mod DueHolds
+pub mod CarriesHold
