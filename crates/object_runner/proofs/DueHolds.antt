@@ -53,6 +53,11 @@ formed-fitting G D g d (HW home block ∷ rs) f = ((omega (arith, f .0 .0), f .0
 formed-fitting G D g d (KW header ∷ rs) f = (f .0, formed-fitting G D g d rs (f .1))
 formed-fitting G D g d (FN ∷ rs) f = (tt, formed-fitting G D g d rs f)
 
+-- what a done call puts into its buffer
+pub batch-done : (g : Given) (e : Effect) → sizeOf e ≤ length (g .batch) → batchOf (done g e) ≡ batchBytes (e .records)
+unfolding batchOf done sizeOf
+batch-done g e l = taken (batchBytes (e .records)) (g .batch) l
+
 -- ---- groups without a first word, which an opening and a format write
 
 module _ (l : Grain) (G next : ℕ) (log : List ℕ) where
@@ -137,7 +142,7 @@ read-call w c h f l =
     e = rowOf w c .effect
 
     bytes-are : batchOf (ends w c) ≡ batchBytes (e .records)
-    bytes-are = ap batchOf (row-done w c h) ∙ (unfold batchOf done sizeOf in taken (batchBytes (e .records)) (g .batch) (unfold sizeOf in l))
+    bytes-are = ap batchOf (row-done w c h) ∙ batch-done g e l
 
 module _ (l : Grain) (G D : ℕ) (w : World) (c : Call) (k : Read w c) where
   abbrev e : Effect

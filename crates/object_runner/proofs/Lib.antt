@@ -9,3 +9,4 @@ pub mod DueSteps
 pub mod CallWrites
 pub mod DueHolds
 pub mod CarriesHold
+pub mod FormatHands
