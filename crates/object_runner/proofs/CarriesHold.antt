@@ -82,7 +82,7 @@ refused-state g (suc a) n e h = refl
 -- for an empty batch the runner is done at once
 hands-nothing : (l : Grain) (G D : ℕ) → Sizes G D → (next headed : ℕ) (log : List ℕ) → headed ≤ next → Hands l G D next [] log (cursor 0 headed 0) [] headed
 unfolding batchBytes motions headedAfter
-hands-nothing l G D z next headed log h = runner-moves l G D next headed log [] [] (omega (arith, z .low)) (z .high) (z .homes) tt tt
+hands-nothing l G D z next headed log h = runner-moves l G D next headed log [] [] (omega (arith, z .low)) (z .high) (z .homes) h tt tt
 
 -- what one call shows: the runner's actions for its batch, and where they leave it
 record Handing (l : Grain) (G D : ℕ) (w : World) (headed : ℕ) (handed : List Motion) (least : ℕ) (c : Call) : Type 0 where
@@ -172,7 +172,7 @@ module _ (l : Grain) (G D : ℕ) (z : Sizes G D) (w : World) (headed : ℕ) (han
     hands-out : Hands l G D (nextOf (ends w c)) (batchOf (ends w c)) (ends w c .log) (cursor 0 h₀ 0) ms on
     hands-out =
         subst (λ (bs : List ℕ). Hands l G D (nextOf (ends w c)) bs (ends w c .log) (cursor 0 h₀ 0) ms on) (sym (d .bytes))
-        (runner-moves l G D (nextOf (ends w c)) h₀ (ends w c .log) (waitingAfter l [] (w .pending)) rs (omega (arith, z .low)) (z .high) (z .homes) (d .fitting) due)
+        (runner-moves l G D (nextOf (ends w c)) h₀ (ends w c .log) (waitingAfter l [] (w .pending)) rs (omega (arith, z .low)) (z .high) (z .homes) low (d .fitting) due)
 
     pending-is : step w (call c) .pending ≡ w .pending ++ rs
     pending-is = ap (λ (x : World). x .pending) (t .read) ∙ ap (λ (x : List Record). w .pending ++ x) (sym (t .records))

@@ -91,5 +91,5 @@ pub runner-formats : RunnerFormats
 runner-formats l G D f next log =
     rw (bytes-are f, format-records f)
     (subst (Hands l G D next (batchBytes (formatted G D)) log (cursor 0 next 0) (motions l [] (formatted G D))) (headed-none l G next log (formatted G D))
-    (runner-moves l G D next next log [] (formatted G D) (omega (arith, sizes f .low)) (sizes f .high) (sizes f .homes) (fitting-format G D)
+    (runner-moves l G D next next log [] (formatted G D) (omega (arith, sizes f .low)) (sizes f .high) (sizes f .homes) (omega arith) (fitting-format G D)
     (due-none l G next log (formatted G D) (unparted-format l G D))))
