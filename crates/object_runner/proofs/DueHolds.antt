@@ -41,7 +41,7 @@ use Rattle.object_runner.specs.Always.{batchOf, recordsOf, nextOf, heade
 use Rattle.object_runner.proofs.GoesOnHolds.{blocks-due}
 use Rattle.object_runner.proofs.WaitingLaws.{waiting-append, waiting-blocks, no-words}
 use Rattle.object_runner.proofs.DueSteps.{headedOf, waitingOf, Waits, headed-next, Written, due-words, waits-on, headed-on, next-low, next-mono}
-use Rattle.object_runner.proofs.CallWrites.{Inside, fitting-formed, homes-inside, Wrote, call-wrote}
+use Rattle.object_runner.proofs.CallWrites.{InStore, fitting-formed, homes-inside, Wrote, call-wrote}
 
 -- ---- records that read back
 
@@ -110,10 +110,10 @@ unfolding homeWrites
 unparted-homes l area [] = tt
 unparted-homes l area (x ∷ hs) = (tt, unparted-homes l area hs)
 
-blanks-inside : (G D start n : ℕ) → n ≤ G → All (Inside G D) (blankWrites G start n)
+blanks-inside : (G D start n : ℕ) → n ≤ G → All (InStore G D) (blankWrites G start n)
 unfolding blankWrites
 blanks-inside G D start zero h = tt
-blanks-inside G D start (suc n) h = all-append (Inside G D) (blankWrites G start n) _ (blanks-inside G D start n (omega arith)) (omega arith, tt)
+blanks-inside G D start (suc n) h = all-append (InStore G D) (blankWrites G start n) _ (blanks-inside G D start n (omega arith)) (omega arith, tt)
 
 -- ---- a done call, by its row
 
@@ -242,11 +242,11 @@ module _ (G D : ℕ) (z : Sizes G D) (w : World) (q : Closed G D w) (state newes
       all-append (Unparted l) (homeWrites X (hs G D z (w .memory) X (q .opens))) _ (unparted-homes l X (hs G D z (w .memory) X (q .opens)))
       (tt, (tt, (tt, all-append (Unparted l) (blankWrites G _ G) (FN ∷ []) (unparted-blanks l G _ G) (tt, tt))))
 
-  inside : All (Inside G D) R
+  inside : All (InStore G D) R
   inside =
-      all-append (Inside G D) (homeWrites X (hs G D z (w .memory) X (q .opens))) _
+      all-append (InStore G D) (homeWrites X (hs G D z (w .memory) X (q .opens))) _
       (homes-inside G D X (hs G D z (w .memory) X (q .opens)) (touched-below G D z (w .memory) X (q .opens)))
-      (tt, (tt, (tt, all-append (Inside G D) (blankWrites G _ G) (FN ∷ []) (blanks-inside G D _ G (omega arith)) (tt, tt))))
+      (tt, (tt, (tt, all-append (InStore G D) (blankWrites G _ G) (FN ∷ []) (blanks-inside G D _ G (omega arith)) (tt, tt))))
 
   formed₀ : AllFormed (E₀ .records)
   unfolding rowOf

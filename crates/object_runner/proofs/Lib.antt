@@ -10,3 +10,4 @@ pub mod CallWrites
 pub mod DueHolds
 pub mod CarriesHold
 pub mod FormatHands
+pub mod InsideHolds
