@@ -207,6 +207,12 @@ static bool run_proved(uint64_t landing)
     return a.kind == DONE;
 }
 
+/* A cursor that no batch has: beyond its end, with first words beyond the next group, at a step that there is not. */
+static bool refuses(uint64_t at, uint64_t beyond, uint64_t stage)
+{
+    return kagutin_next_action(batch, size, 0, GROUPS, HOMES, next, at, next + beyond, stage).kind == REFUSED;
+}
+
 static void compare(enum kgt_landing landing)
 {
     const struct kgt_driver driver = {NULL, load, write_area, fence, landing};
@@ -229,6 +235,8 @@ static void compare(enum kgt_landing landing)
         if (!damaged
             && (!taken || traces[0].size != traces[1].size || memcmp(traces[0].bytes, traces[1].bytes, traces[0].size) != 0))
             wrong("other driver calls", i);
+        if (!refuses(size + 1, 0, 0) || !refuses(0, 1, 0) || !refuses(0, 0, 3))
+            wrong("a cursor that no batch has is taken", i);
         if (damaged) { /* which first words wait may differ then: both begin anew */
             kgt_runner_init(&runner, driver, GROUPS, HOMES);
             headed = next;
