@@ -16,7 +16,7 @@ use Rattle.object_runner.specs.declared.Cursor.{Cursor}
 use Rattle.object_runner.specs.declared.Action.{Action}
 use Rattle.object_runner.specs.Next.{cursor, done, writing, fencing, refused, logArea, homesArea, fromBatch, fromCopy, bare, write, past, parts, groupAction, homeAction, wiping, wholeHeader, wipeAction, headerAction, due, dueAction, fenceAction, recordAction, asked, nextAction}
 use Rattle.object_runner.specs.Inside.{areaSize, sourceSize, Fits, Inside}
-use Rattle.object_runner.proofs.ActionLaws.{Asked, asked-true}
+use Rattle.object_runner.proofs.AskedLaws.{Asked, asked-true}
 
 module _ (groups homes next size : ℕ) where
   abbrev In : Action → Type 0

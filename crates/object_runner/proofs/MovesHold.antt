@@ -22,7 +22,7 @@ use Rattle.object.proofs.HeadLaws.{rest-drop}
 use Rattle.object_runner.specs.declared.Cursor.{Cursor}
 use Rattle.object_runner.specs.declared.Action.{Action}
 use Rattle.object_runner.specs.Next.{cursor, done, fencing, logArea, homesArea, fromBatch, fromCopy, bare, write, past, parts, groupAction, homeAction, wiping, wholeHeader, wipeAction, headerAction, due, dueAction, fenceAction, recordAction, asked, nextAction}
-use Rattle.object_runner.proofs.ActionLaws.{Asked, true-asked}
+use Rattle.object_runner.proofs.AskedLaws.{Asked, true-asked}
 use Rattle.object_runner.specs.Moves.{landingOf, bytesOf, pieceOf, Hands, wordsFrom, wordsDue, headedAt, headedAfter, Due, Fitting, RunnerMoves}
 
 unfoldable isWords : Grain → Bool

@@ -1,5 +1,5 @@
 -- `object_runner::asked` meets its contract. Assumes nothing.
-use Rattle.object_runner.proofs.ActionLaws.{asked-landing, asked-none, asked-many, asked-beyond, asked-headed, asked-stage}
+use Rattle.object_runner.proofs.AskedLaws.{asked-landing, asked-none, asked-many, asked-beyond, asked-headed, asked-stage}
 use Rattle.object_runner.proofs.asked.Statement.{statement}
 use Rattle.object_runner.proofs.asked.Tie as tie
 
