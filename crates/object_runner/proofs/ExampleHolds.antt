@@ -1,49 +1,71 @@
--- The moment of specs/Example meets the premise of RunnerMoves, which therefore says something of it.
+-- The moments of specs/Example meet the premise of RunnerMoves, which therefore says something of them; and a history with torn words that of DueAlways.
+use Prim.Native.Nat.{ℕ, _≤_}
 use mathlib.Core.Path.{_≡_, refl}
-use mathlib.Core.Bool.{true}
-use mathlib.Core.List.{[]}
+use mathlib.Core.Bool.{Bool, true}
+use mathlib.Core.List.{List, [], _∷_}
 use native.Mathlib.Omega.{arith}
-use lib.ListN.{take}
-use borrow.Author.Tests.{ltb-true}
-use Rattle.model.specs.Bytes.{same}
+use borrow.Author.Tests.{leb-true, ltb-true}
 use Rattle.model.specs.Batch.{batchBytes}
-use Rattle.model.specs.History.{calls}
+use Rattle.model.specs.Effects.{formatted}
+use Rattle.model.specs.History.{flush, trim, ends, calls}
+use Rattle.model.specs.examples.Trials.{room}
+use Rattle.model.specs.examples.Witnesses.{openAgain}
 use Rattle.model.proofs.examples.Computing.{all-definitions}
 use Rattle.object.specs.Medium.{words}
 use Rattle.object.specs.Order.{parted, head, motions}
 use Rattle.object_runner.specs.Next.{cursor}
 use Rattle.object_runner.specs.Moves.{Hands, wordsFrom, wordsDue, headedAt, headedAfter, waitingAfter, Due, Fitting}
-use Rattle.object_runner.specs.Example.{twoCommits, before, flushed, records, headed, next}
+use Rattle.object_runner.specs.Always.{batchOf, recordsOf, nextOf, headedBefore}
+use Rattle.object_runner.specs.Example.{fills, twoCommits, before, settled, reopened, DueAt, figures}
 use Rattle.object_runner.proofs.MovesHold.{runner-moves}
-use mathlib.Core.Bool.{Bool}
 
 unfoldable computed : Bool
-unfolding all-definitions calls parted head wordsFrom wordsDue headedAt waitingAfter twoCommits before flushed records headed next
+unfolding all-definitions calls parted head wordsFrom wordsDue headedAt waitingAfter batchOf recordsOf nextOf headedBefore fills twoCommits before settled reopened figures
 computed = true
 
--- the records are those of the batch's bytes
-pub bytes-are : same (batchBytes records) (take (flushed .size) (flushed .batch)) ≡ true
+-- two first words are due at the flush's fence, one at the trim's, none at the opening's three, which follow seven homes and four blank groups
+pub flush-figures : figures before (flush room) ≡ 4 ∷ 6 ∷ 1 ∷ 2 ∷ 1 ∷ []
 unfolding computed
-bytes-are = refl
+flush-figures = refl
 
--- first words wait for two groups
-pub two-due : next ≡ 6
+pub trim-figures : figures settled (trim room) ≡ 5 ∷ 6 ∷ 1 ∷ 2 ∷ 1 ∷ []
 unfolding computed
-two-due = refl
+trim-figures = refl
 
-pub from-four : headed ≡ 4
+pub opening-figures : figures reopened openAgain ≡ 8 ∷ 8 ∷ 0 ∷ 15 ∷ 3 ∷ []
 unfolding computed
-from-four = refl
+opening-figures = refl
 
-fitting : Fitting 4 8 records
+pub due-at-flush : DueAt before (flush room)
+unfolding computed
+due-at-flush = (refl, tt)
+
+pub due-at-trim : DueAt settled (trim room)
+unfolding computed
+due-at-trim = (refl, tt)
+
+pub due-at-opening : DueAt reopened openAgain
+unfolding computed
+due-at-opening = (refl, (refl, (refl, tt)))
+
+-- whatever log copy and next group are told
+pub due-at-format : (log : List ℕ) → Due words 4 log 0 0 [] (formatted 4 8)
+unfolding computed
+due-at-format log = (refl, (refl, (refl, tt)))
+
+-- and so RunnerMoves says of the flush
+fitting : Fitting 4 8 (recordsOf (ends before (flush room)))
 unfolding computed
 fitting = ((ltb-true 1 4 refl, refl), tt)
 
-due-there : Due words 4 (flushed .log) next headed (waitingAfter words [] (before .pending)) records
+low : headedBefore before (flush room) ≤ nextOf (ends before (flush room))
 unfolding computed
-due-there = (refl, tt)
+low = leb-true 4 6 refl
 
-pub moves-there : Hands words 4 8 next (batchBytes records) (flushed .log) (cursor 0 headed 0) (motions words (waitingAfter words [] (before .pending)) records)
-    (headedAfter words headed next records)
+pub moves-there :
+    Hands words 4 8 (nextOf (ends before (flush room))) (batchBytes (recordsOf (ends before (flush room)))) (ends before (flush room) .log)
+    (cursor 0 (headedBefore before (flush room)) 0) (motions words (waitingAfter words [] (before .pending)) (recordsOf (ends before (flush room))))
+    (headedAfter words (headedBefore before (flush room)) (nextOf (ends before (flush room))) (recordsOf (ends before (flush room))))
 moves-there =
-    runner-moves words 4 8 next headed (flushed .log) (waitingAfter words [] (before .pending)) records (omega arith) (omega arith) (omega arith) (omega (arith, two-due, from-four)) fitting due-there
+    runner-moves words 4 8 (nextOf (ends before (flush room))) (headedBefore before (flush room)) (ends before (flush room) .log)
+    (waitingAfter words [] (before .pending)) (recordsOf (ends before (flush room))) (omega arith) (omega arith) (omega arith) low fitting due-at-flush

@@ -1,32 +1,42 @@
--- A moment of a history that meets the premise of RunnerMoves, on words (G 4, D 8): a group that a commit has filled waits for its first word, and a flush
--- submits the next one and fences both.
-use Prim.Native.Nat.{ℕ, _/_}
-use mathlib.Core.List.{List, [], _∷_}
-use lib.ListN.{take}
-use Rattle.model.specs.Batch.{Record, readBatch}
-use Rattle.model.specs.State.{stateOf}
-use Rattle.model.specs.Calls.{Outcome}
-use Rattle.model.specs.History.{Call, begin, store, commit, flush, World, emptyStore, ends, after, calls}
+-- Moments of histories that meet the premise of RunnerMoves, on words (G 4, D 8): a flush with two first words due, a trim with one, an opening that brings
+-- homes back, and a format.
+use Prim.Native.Nat.{ℕ}
+use mathlib.Core.Bool.{false}
+use mathlib.Core.List.{List, [], _∷_, _++_}
+use lib.ListN.{length}
+use Rattle.model.specs.Crash.{fences}
+use Rattle.model.specs.History.{Call, begin, store, commit, flush, settle, crash, World, emptyStore, ends, after, calls}
 use Rattle.model.specs.examples.Trials.{room, fill}
 use Rattle.model.specs.examples.Witnesses.{openAgain}
+use Rattle.object.specs.Medium.{words}
+use Rattle.object_runner.specs.Moves.{waitingAfter, Due}
+use Rattle.object_runner.specs.Always.{recordsOf, nextOf, headedBefore}
+
+-- seven entries in one transaction: a group full, which is submitted
+unfoldable pub fills : ℕ → List Call
+fills byte =
+    begin 0 ∷ store 0 0 (fill byte) room ∷ store 0 1 (fill byte) room ∷ store 0 2 (fill byte) room ∷ store 0 3 (fill byte) room ∷ store 0 4 (fill byte) room
+    ∷ store 0 5 (fill byte) room ∷ store 0 6 (fill byte) room ∷ commit 0 room ∷ []
 
 unfoldable pub twoCommits : List Call
-twoCommits =
-    openAgain ∷ begin 0 ∷ store 0 0 (fill 9) room ∷ store 0 1 (fill 9) room ∷ store 0 2 (fill 9) room ∷ store 0 3 (fill 9) room ∷ store 0 4 (fill 9) room
-    ∷ store 0 5 (fill 9) room ∷ store 0 6 (fill 9) room ∷ commit 0 room ∷ begin 0 ∷ store 0 0 (fill 10) room ∷ commit 0 room ∷ []
+twoCommits = openAgain ∷ (fills 9 ++ (begin 0 ∷ store 0 0 (fill 10) room ∷ commit 0 room ∷ []))
 
+-- a group that a commit has filled waits for its first word, and a flush submits the next one and fences both
 unfoldable pub before : World
 before = after (emptyStore 4 8) (calls twoCommits)
 
-unfoldable pub flushed : Outcome
-flushed = ends before (flush room)
+-- a group is settled, the next one waits, and a trim's header and fence come
+unfoldable pub settled : World
+settled = after (emptyStore 4 8) (calls (openAgain ∷ (fills 9 ++ (flush room ∷ settle room ∷ fills 10))))
 
-unfoldable pub records : List Record
-records = readBatch (take (flushed .size) (flushed .batch))
+-- power has gone with all fences passed
+unfoldable pub reopened : World
+reopened = after (emptyStore 4 8) (calls (openAgain ∷ (fills 9 ++ (flush room ∷ []))) ++ (crash 4 (λ i. false) ∷ []))
 
--- the groups below the fenced position have their first words
-unfoldable pub headed : ℕ
-headed = stateOf (before .state) .fenced / 7
+abbrev pub DueAt : World → Call → Type 0
+DueAt w c = Due words 4 (ends w c .log) (nextOf (ends w c)) (headedBefore w c) (waitingAfter words [] (w .pending)) (recordsOf (ends w c))
 
-unfoldable pub next : ℕ
-next = stateOf (flushed .state) .next
+-- the runner's number, the next group, the first words that wait, records and fences of the batch
+unfoldable pub figures : World → Call → List ℕ
+figures w c =
+    headedBefore w c ∷ nextOf (ends w c) ∷ length (waitingAfter words [] (w .pending)) ∷ length (recordsOf (ends w c)) ∷ fences (recordsOf (ends w c)) ∷ []
