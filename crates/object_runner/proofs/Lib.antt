@@ -14,4 +14,4 @@ pub mod InsideHolds
 -- Moments that meet the premises.
 pub mod ExampleHolds
 -- The code does what the definition says.
-pub mod ActionLaws
+pub mod NextLaws

@@ -2,7 +2,7 @@
 use mathlib.Core.Path.{refl}
 use native.Mathlib.Omega.{arith}
 use Rattle.object_runner.proofs.AskedLaws.{was-asked}
-use Rattle.object_runner.proofs.ActionLaws.{next-refused, next-done, next-short, next-record}
+use Rattle.object_runner.proofs.NextLaws.{next-refused, next-done, next-short, next-record}
 use borrow.Author.Needs.{needs}
 use Rattle.object_runner.proofs.kagutin_next_action.Statement.{statement}
 use Rattle.object_runner.proofs.kagutin_next_action.Tie as tie

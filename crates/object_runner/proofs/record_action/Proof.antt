@@ -1,6 +1,6 @@
 -- `object_runner::record_action` meets its contract. Assumes nothing.
 use mathlib.Core.Bool.{true}
-use Rattle.object_runner.proofs.ActionLaws.{by-group, by-home, by-header, by-fence, by-none}
+use Rattle.object_runner.proofs.NextLaws.{by-group, by-home, by-header, by-fence, by-none}
 use borrow.Author.Needs.{needs}
 use Rattle.object_runner.proofs.record_action.Statement.{statement}
 use Rattle.object_runner.proofs.record_action.Tie as tie

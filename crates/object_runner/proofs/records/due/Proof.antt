@@ -1,6 +1,6 @@
 -- `object_runner::records::due` meets its contract. Assumes nothing.
 use mathlib.Core.Path.{refl}
-use Rattle.object_runner.proofs.ActionLaws.{due-words, due-blocks}
+use Rattle.object_runner.proofs.NextLaws.{due-words, due-blocks}
 use Rattle.object_runner.proofs.records.due.Statement.{statement}
 use Rattle.object_runner.proofs.records.due.Tie as tie
 

@@ -1,7 +1,7 @@
 -- `object_runner::records::due_action` meets its contract. Assumes nothing.
 use native.Mathlib.Nat.{mod-lt}
 use native.Mathlib.Omega.{arith}
-use Rattle.object_runner.proofs.ActionLaws.{due-fence, due-word}
+use Rattle.object_runner.proofs.NextLaws.{due-fence, due-word}
 use borrow.Author.Needs.{needs}
 use Rattle.object_runner.proofs.records.due_action.Statement.{statement}
 use Rattle.object_runner.proofs.records.due_action.Tie as tie

@@ -1,6 +1,6 @@
 -- `object_runner::records::fence_action` meets its contract. Assumes nothing.
 use native.Mathlib.Omega.{arith}
-use Rattle.object_runner.proofs.ActionLaws.{due-lt, fence-due, fence-past}
+use Rattle.object_runner.proofs.NextLaws.{due-lt, fence-due, fence-past}
 use borrow.Author.Needs.{needs}
 use Rattle.object_runner.proofs.records.fence_action.Statement.{statement}
 use Rattle.object_runner.proofs.records.fence_action.Tie as tie

@@ -1,5 +1,5 @@
 -- `object_runner::records::group_action` meets its contract. Assumes nothing.
-use Rattle.object_runner.proofs.ActionLaws.{group-short, group-high, group-parted, group-whole}
+use Rattle.object_runner.proofs.NextLaws.{group-short, group-high, group-parted, group-whole}
 use borrow.Author.Needs.{needs}
 use Rattle.object_runner.proofs.records.group_action.Statement.{statement}
 use Rattle.object_runner.proofs.records.group_action.Tie as tie

@@ -1,5 +1,5 @@
 -- `object_runner::records::header_action` meets its contract. Assumes nothing.
-use Rattle.object_runner.proofs.ActionLaws.{header-short, header-wiped, header-kept}
+use Rattle.object_runner.proofs.NextLaws.{header-short, header-wiped, header-kept}
 use borrow.Author.Needs.{needs}
 use Rattle.object_runner.proofs.records.header_action.Statement.{statement}
 use Rattle.object_runner.proofs.records.header_action.Tie as tie

@@ -1,5 +1,5 @@
 -- `object_runner::records::home_action` meets its contract. Assumes nothing.
-use Rattle.object_runner.proofs.ActionLaws.{home-short, home-high, home-done}
+use Rattle.object_runner.proofs.NextLaws.{home-short, home-high, home-done}
 use borrow.Author.Needs.{needs}
 use Rattle.object_runner.proofs.records.home_action.Statement.{statement}
 use Rattle.object_runner.proofs.records.home_action.Tie as tie

@@ -1,6 +1,6 @@
 -- `object_runner::records::parts` meets its contract. Assumes nothing.
 use mathlib.Core.Path.{refl}
-use Rattle.object_runner.proofs.ActionLaws.{parts-words, parts-blocks}
+use Rattle.object_runner.proofs.NextLaws.{parts-words, parts-blocks}
 use borrow.Author.Needs.{needs}
 use Rattle.object_runner.proofs.records.parts.Statement.{statement}
 use Rattle.object_runner.proofs.records.parts.Tie as tie

@@ -1,5 +1,5 @@
 -- `object_runner::records::whole_header` meets its contract. Assumes nothing.
-use Rattle.object_runner.proofs.ActionLaws.{header-whole}
+use Rattle.object_runner.proofs.NextLaws.{header-whole}
 use borrow.Author.Needs.{needs}
 use Rattle.object_runner.proofs.records.whole_header.Statement.{statement}
 use Rattle.object_runner.proofs.records.whole_header.Tie as tie

@@ -1,5 +1,5 @@
 -- `object_runner::records::wipe_action` meets its contract. Assumes nothing.
-use Rattle.object_runner.proofs.ActionLaws.{wipe-first, wipe-fence, wipe-rest}
+use Rattle.object_runner.proofs.NextLaws.{wipe-first, wipe-fence, wipe-rest}
 use borrow.Author.Needs.{needs}
 use Rattle.object_runner.proofs.records.wipe_action.Statement.{statement}
 use Rattle.object_runner.proofs.records.wipe_action.Tie as tie

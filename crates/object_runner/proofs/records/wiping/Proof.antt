@@ -1,5 +1,5 @@
 -- `object_runner::records::wiping` meets its contract. Assumes nothing.
-use Rattle.object_runner.proofs.ActionLaws.{wiping-words, wiping-blocks}
+use Rattle.object_runner.proofs.NextLaws.{wiping-words, wiping-blocks}
 use borrow.Author.Needs.{needs}
 use Rattle.object_runner.proofs.records.wiping.Statement.{statement}
 use Rattle.object_runner.proofs.records.wiping.Tie as tie
