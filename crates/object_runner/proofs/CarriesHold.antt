@@ -321,10 +321,15 @@ module _ (l : Grain) (G D : ℕ) (z : Sizes G D) where
       let t = torn (q .passed) (q .chosen) (Left l w many chosen) in
       let a : TearingAllowed G w t = (omega (arith, y .confirmed), q .most, q .alike) in
       let n = keeps-torn G D z w i t a in
-      let e : leftBy l (w .memory) handed many chosen ≡ Left l w many chosen = ap (λ (m : List Motion). leftBy l (w .memory) m many chosen) (k .handedOut) in
-      (q .passed, q .chosen, q .most, q .least, n .1,
+      let e : leftBy l (w .memory) handed many chosen ≡ Left l w many chosen = ap (λ (m : List Motion). leftBy l (w .memory) m many chosen) (k .handedOut) in (
+        q .passed,
+        q .chosen,
+        q .most,
+        q .least,
+        n .1,
         subst (λ (m : Memory). AllCarried l G D (tears w (torn (q .passed) (q .chosen) m)) 0 [] 0 ds) (sym e)
-        (all-carried ds (tears w t) 0 [] 0 (begun (tears w t) (n .0) (torn-words G D z w i s t a) (unfold tears withMemory afterCrash in refl) (unfold tears withMemory afterCrash in refl) (unfold tears withMemory afterCrash in refl))))
+            (all-carried ds (tears w t) 0 [] 0 (begun (tears w t) (n .0) (torn-words G D z w i s t a) (unfold tears withMemory afterCrash in refl) (unfold tears withMemory afterCrash in refl) (unfold tears withMemory afterCrash in refl))),
+      )
 
 pub runner-carries : RunnerCarries
 runner-carries l G D f ds =
