@@ -3,14 +3,14 @@ use Prim.Native.Nat.{ℕ, zero, suc, _+_, _-_, _*_, _%_, _≤_, _<_}
 use mathlib.Core.Path.{_≡_, refl, sym, ap, _∙_, subst}
 use mathlib.Core.Logic.{inl, inr}
 use mathlib.Core.Bool.{Bool, true, false, cond, false≢true}
-use mathlib.Core.List.{List, [], _∷_, _++_, append-nil}
+use mathlib.Core.List.{List, [], _∷_, _++_}
 use native.Mathlib.Nat.{mod-lt}
 use native.Mathlib.Omega.{arith}
 use lib.Dec.{eqb, leb}
 use lib.ListN.{length, take}
 use borrow.Author.Tests.{ltb-true, eqb-true, eqb-false, ne-eqb}
 use Rattle.model.specs.Bytes.{part, puts, same}
-use Rattle.model.specs.Layout.{homesIn, groupMark, groupAt, putBlank, turnOf, topBit, withTopBit, header}
+use Rattle.model.specs.Layout.{homesIn, groupMark, groupAt, putBlank, header}
 use Rattle.model.specs.Tag.{entryWord, closingWord}
 use Rattle.model.specs.Batch.{Record, GW, HW, KW, FN}
 use Rattle.model.specs.State.{stateOf, writerOf, heldOf, holds, firstFor, countFor, nextPosition}
@@ -19,10 +19,10 @@ use Rattle.model.specs.declared.Writer.{Writer}
 use Rattle.model.specs.Commit.{transactions}
 use Rattle.model.specs.Given.{groups, homes, liveTags, liveBase}
 use Rattle.model.specs.Effects.{Given, Effect, newState, marked, touched, touchedFrom, homeWrites, entered, logged, logHeld, linkFrom, logClosing, beginEffect, reserveEffect, abortEffect, storeFirst, storeAgain, storeOther, storeEffect, commitHeld, commitEffect, flushNone, flushPart, flushEffect, confirmEffect, settleEffect, beginRoundEffect, roundHomes, stepHomes, stepRoundEffect, trimStart, trimTo, trimEffect, readEffect}
-use Rattle.model.specs.Questions.{writerKnown, storeLogs, commitLogs, room, storeAnswer, commitAnswer, flushAnswer, settleAnswer, stepRoundAnswer, trimAnswer}
+use Rattle.model.specs.Questions.{writerKnown, storeLogs, commitLogs, room, storeAnswer, commitAnswer}
 use Rattle.model.specs.Calls.{sizeOf}
 use Rattle.model.specs.History.{begins, reserves, aborts, stores, commits, flushes, settles, roundBegins, roundSteps, trims, reads, Call, opening, confirm, change, service, World, lent, isOpening}
-use Rattle.model_laws.proofs.bytes.LayoutLaws.{homes-in, length-groupAt, group-fits, group-header, length-header, blank-other, enterIn, entry-same, entry-other, enter-mark, ring}
+use Rattle.model_laws.proofs.bytes.LayoutLaws.{homes-in, length-groupAt, group-fits, group-header, length-header, blank-other, entry-same, entry-other, enter-mark, ring}
 use Rattle.model_laws.proofs.state.BatchLaws.{AllFormed}
 use Rattle.model_laws.proofs.state.LoggingLaws.{fits, held-size, logged-log, logged-records}
 use Rattle.model_laws.proofs.state.OrderLaws.{place-below}
@@ -34,13 +34,12 @@ use Rattle.theorems.proofs.steps.CallRuns.{no-bytes}
 use Rattle.theorems.proofs.steps.FormedLaws.{store-formed, commit-formed}
 use Rattle.theorems.proofs.steps.SettleRuns.{settle-formed}
 use Rattle.theorems.proofs.steps.RoundRuns.{lent-within, step-round-formed}
-use Rattle.theorems.proofs.steps.TrimRuns.{trim-formed}
 use Rattle.theorems.proofs.steps.Rows.{rowOf}
 use Rattle.object.proofs.ChopLaws.{all-append}
 use Rattle.object.proofs.WordSteps.{step-records, trim-none, trim-header, flush-none, flush-part}
 use Rattle.object_runner.specs.Moves.{Fitting}
 use Rattle.object_runner.proofs.WaitingLaws.{Plain}
-use Rattle.object_runner.proofs.DueSteps.{headedOf, headed-next, start-headed, Submits, Written}
+use Rattle.object_runner.proofs.DueSteps.{headedOf, start-headed, Written}
 
 -- ---- records in the store's shape
 

@@ -1,12 +1,11 @@
 -- Demand 3 for the proved runner: its actions are the motions, and so DemandRunner's argument applies to them.
 use Prim.Native.Nat.{ℕ, zero, suc, _+_, _/_, _≤_}
 use mathlib.Core.Path.{_≡_, refl, sym, ap, _∙_, subst}
-use mathlib.Core.Logic.{inl, inr}
+use mathlib.Core.Logic.{inl}
 use mathlib.Core.Bool.{Bool, true, false, cond, not, _&&_, false≢true}
 use mathlib.Core.List.{List, [], _∷_, _++_, append-nil, append-assoc}
 use native.Mathlib.Omega.{arith}
-use lib.Dec.{eqb}
-use lib.ListN.{length, take}
+use lib.ListN.{length}
 use borrow.Author.Tests.{eq-eqb, ne-eqb}
 use Rattle.model.specs.Batch.{Record, GW, HW, KW, FN, batchBytes}
 use Rattle.model.specs.State.{stateOf}
@@ -28,14 +27,14 @@ use Rattle.object.proofs.TornHolds.{keeps-torn}
 use Rattle.object.proofs.StretchesOf.{Stretches}
 use Rattle.object.proofs.WordsHold.{event-words, torn-words, cut-words, format-words}
 use Rattle.object_runner.specs.Next.{cursor}
-use Rattle.object_runner.specs.Moves.{Hands, headedAt, headedAfter, waitingAfter, Due, Fitting}
+use Rattle.object_runner.specs.Moves.{Hands, headedAt, headedAfter, waitingAfter, Due}
 use Rattle.object_runner.specs.Always.{batchOf, recordsOf, nextOf, headedBefore, BatchDue}
 use Rattle.object_runner.specs.Carries.{headedFor, leastAfter, leftBy, AllCarried, RunnerCarries}
 use Rattle.object_runner.proofs.MovesHold.{runner-moves}
 use Rattle.object_runner.proofs.GoesOnHolds.{blocks-due, motions-go-on}
 use Rattle.object_runner.proofs.WaitingLaws.{waiting-blocks}
 use Rattle.object_runner.proofs.DueSteps.{headedOf, headed-next}
-use Rattle.object_runner.proofs.DueHolds.{WaitsIf, Moment, running, call-due, call-waits, tearing-waits, empty-waits}
+use Rattle.object_runner.proofs.DueHolds.{WaitsIf, Moment, running, call-due, call-waits}
 
 -- the runner's number: on words that of the last fence, on blocks any that is not beyond the next group
 abbrev HeadedOk : Grain → World → ℕ → Type 0

@@ -1,34 +1,32 @@
 -- The first words that wait are due, in every history.
-use Prim.Native.Nat.{ℕ, zero, suc, _+_, _-_, _*_, _/_, _%_, _≤_, _<_}
+use Prim.Native.Nat.{ℕ, zero, suc, _+_, _-_, _/_, _≤_}
 use mathlib.Core.Path.{_≡_, refl, sym, ap, _∙_, subst}
-use mathlib.Core.Logic.{_⊎_, inl, inr}
-use mathlib.Core.Bool.{Bool, true, false, cond, not, false≢true}
+use mathlib.Core.Logic.{inl, inr}
+use mathlib.Core.Bool.{true, false, not, false≢true}
 use mathlib.Core.List.{List, [], _∷_, _++_}
 use native.Mathlib.Omega.{arith}
-use lib.ListN.{length, take}
+use lib.ListN.{length}
 use Rattle.model.specs.Layout.{header}
 use Rattle.model.specs.Batch.{Record, GW, HW, KW, FN, batchBytes, readBatch}
 use Rattle.model.specs.State.{stateOf}
 use Rattle.model.specs.Effects.{Given, Effect, openEffect, openStart, homeWrites, blankWrites}
 use Rattle.model.specs.Calls.{Outcome, sizeOf, done}
 use Rattle.model.specs.Book.{homesAfter}
-use Rattle.model.specs.History.{Call, opening, confirm, change, service, Event, call, World, Formatting, emptyStore, afterFormat, unopened, loaded, ends, step, afterCrash, isOpening, Allowed}
+use Rattle.model.specs.History.{Call, opening, confirm, change, service, call, World, emptyStore, unopened, loaded, ends, step, afterCrash, isOpening, Allowed}
 use Rattle.model.specs.History as history
-use Rattle.model_laws.proofs.bytes.LayoutLaws.{length-header}
 use Rattle.model_laws.proofs.state.BatchLaws.{AllFormed, taken, read-batch}
 use Rattle.model_laws.proofs.state.LoggingLaws.{fits}
 use Rattle.model_laws.proofs.state.QuestionLaws.{open-ready}
 use Rattle.model_laws.proofs.trace.TraceLaws.{All}
-use Rattle.model_laws.proofs.trace.HomeLaws.{In}
-use Rattle.theorems.proofs.invariant.Invariant.{Sizes, Opens, Closed, Running, Invariant}
-use Rattle.theorems.proofs.invariant.OpenLaws.{hs, newHeader, newStart, touched-below}
+use Rattle.theorems.proofs.invariant.Invariant.{Sizes, Closed, Running, Invariant}
+use Rattle.theorems.proofs.invariant.OpenLaws.{hs, touched-below}
 use Rattle.theorems.proofs.steps.DoneLaws.{after, step-done}
 use Rattle.theorems.proofs.steps.RefusalLaws.{step-refused}
 use Rattle.theorems.proofs.steps.OpenStep.{opens-with, open-effect}
 use Rattle.theorems.proofs.steps.OpenKeeps.{open-formed}
 use Rattle.theorems.proofs.steps.Beginning.{format-closed}
 use Rattle.theorems.proofs.steps.FormatRuns.{after-format, sizes}
-use Rattle.theorems.proofs.steps.Rows.{Row, rowOf, ends-row, row-answer, row-done}
+use Rattle.theorems.proofs.steps.Rows.{rowOf, ends-row, row-answer, row-done}
 use Rattle.theorems.proofs.demands.DemandThree.{keeps}
 use Rattle.object.specs.Medium.{Grain, words, blocks}
 use Rattle.object.specs.Order.{Motion, head}
@@ -39,8 +37,8 @@ use Rattle.object.proofs.TornHolds.{keeps-torn}
 use Rattle.object_runner.specs.Moves.{wordsFrom, wordsDue, headedAt, headedAfter, waitingAfter, Due, Fitting}
 use Rattle.object_runner.specs.Always.{batchOf, recordsOf, nextOf, headedBefore, BatchDue, DueAlways}
 use Rattle.object_runner.proofs.GoesOnHolds.{blocks-due}
-use Rattle.object_runner.proofs.WaitingLaws.{waiting-append, waiting-blocks, no-words}
-use Rattle.object_runner.proofs.DueSteps.{headedOf, waitingOf, Waits, headed-next, Written, due-words, waits-on, headed-on, next-low, next-mono}
+use Rattle.object_runner.proofs.WaitingLaws.{waiting-blocks, no-words}
+use Rattle.object_runner.proofs.DueSteps.{headedOf, waitingOf, Waits, headed-next, due-words, waits-on, headed-on, next-low, next-mono}
 use Rattle.object_runner.proofs.CallWrites.{InStore, fitting-formed, homes-inside, Wrote, call-wrote}
 
 -- ---- records that read back

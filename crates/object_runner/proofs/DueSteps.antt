@@ -1,5 +1,5 @@
 -- A call of an era that writes at most one group, homes or a header, and a fence: the first words that wait stay those of the log copy.
-use Prim.Native.Nat.{ℕ, zero, suc, _+_, _-_, _*_, _/_, _%_, _≤_, _<_}
+use Prim.Native.Nat.{ℕ, suc, _+_, _-_, _/_, _%_, _≤_, _<_}
 use mathlib.Core.Path.{_≡_, refl, sym, ap, _∙_, subst}
 use mathlib.Core.Logic.{_⊎_, inl, inr}
 use mathlib.Core.Bool.{Bool, true, false, cond, false≢true}
@@ -7,7 +7,7 @@ use mathlib.Core.List.{List, [], _∷_, _++_, append-nil}
 use native.Mathlib.Omega.{arith}
 use lib.ListN.{length}
 use Rattle.model.specs.Bytes.{part, same}
-use Rattle.model.specs.Layout.{groupMark, groupAt, headerStart}
+use Rattle.model.specs.Layout.{groupMark, groupAt}
 use Rattle.model.specs.Batch.{Record, GW, HW, KW, FN}
 use Rattle.model.specs.State.{stateOf}
 use Rattle.model.specs.Effects.{Effect}
@@ -15,13 +15,13 @@ use Rattle.model.specs.Crash.{isFence}
 use Rattle.model.specs.DemandTwo.{groupWrites}
 use Rattle.model.specs.History.{Call, World}
 use Rattle.model_laws.proofs.trace.CrashLaws.{submits, NoFence, groupWrites-append, groupWrites-fence, groupWrites-submits}
-use Rattle.model_laws.proofs.trace.MixLaws.{groupPart, groupWrites-part}
+use Rattle.model_laws.proofs.trace.MixLaws.{groupWrites-part}
 use Rattle.theorems.proofs.invariant.Invariant.{Submitted, Running}
 use Rattle.theorems.proofs.steps.DoneLaws.{after}
-use Rattle.object.specs.Medium.{Grain, words, blocks}
-use Rattle.object.specs.Order.{Motion, put, head}
+use Rattle.object.specs.Medium.{Grain, words}
+use Rattle.object.specs.Order.{Motion, head}
 use Rattle.object_runner.specs.Moves.{wordsFrom, wordsDue, headedAt, headedAfter, waitingAfter, Due, Fitting}
-use Rattle.object_runner.proofs.WaitingLaws.{waiting-append, waiting-one, waiting-fence, Plain, waiting-plain, waiting-groups, firstWord, head-marked, waiting-count, copy-word, wordAt, no-words, length-words, words-more, words-same}
+use Rattle.object_runner.proofs.WaitingLaws.{waiting-append, waiting-one, waiting-fence, Plain, waiting-plain, waiting-groups, head-marked, waiting-count, copy-word, wordAt, no-words, length-words, words-more, words-same}
 
 -- ---- premise and number over records with no fence but the last
 

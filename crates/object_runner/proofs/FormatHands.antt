@@ -1,16 +1,14 @@
 -- The runner's actions for a format's batch are its motions.
-use Prim.Native.Nat.{ℕ, zero, suc, _≤_, _<_}
+use Prim.Native.Nat.{ℕ, zero, suc, _≤_}
 use mathlib.Core.Path.{_≡_, sym, ap, _∙_, subst}
 use mathlib.Core.List.{List, [], _∷_, _++_}
 use native.Mathlib.Omega.{arith}
-use lib.ListN.{length}
-use Rattle.model.specs.Bytes.{zeros}
 use Rattle.model.specs.Layout.{groupsIn, homesIn, header}
 use Rattle.model.specs.Batch.{Record, GW, HW, KW, FN, batchBytes}
 use Rattle.model.specs.Effects.{Given, Effect, blankWrites, zeroHomes, formatted, formatEffect}
 use Rattle.model.specs.Questions.{formatAnswer}
 use Rattle.model.specs.Calls.{done, sizeOf, formatCall}
-use Rattle.model.specs.History.{Formatting, formatRecords}
+use Rattle.model.specs.History.{Formatting}
 use Rattle.model_laws.proofs.bytes.ByteLaws.{length-zeros}
 use Rattle.model_laws.proofs.bytes.EmptyLaws.{length-unusedGroup}
 use Rattle.model_laws.proofs.bytes.LayoutLaws.{length-header, groups-in, homes-in}
@@ -24,7 +22,7 @@ use Rattle.object.specs.Order.{motions}
 use Rattle.object.proofs.ChopLaws.{all-append}
 use Rattle.object.proofs.FormatCuts.{Unparted, unparted-blanks, unparted-zeros}
 use Rattle.object_runner.specs.Next.{cursor}
-use Rattle.object_runner.specs.Moves.{Hands, headedAfter, Fitting}
+use Rattle.object_runner.specs.Moves.{Hands, Fitting}
 use Rattle.object_runner.specs.Always.{batchOf}
 use Rattle.object_runner.specs.Carries.{RunnerFormats}
 use Rattle.object_runner.proofs.MovesHold.{runner-moves}

@@ -1,20 +1,20 @@
 -- What the runner answers lies inside, whatever is asked.
-use Prim.Native.Nat.{ℕ, zero, suc, _+_, _-_, _*_, _%_, _≤_, _<_}
-use mathlib.Core.Path.{_≡_, refl, sym, ap, _∙_}
+use Prim.Native.Nat.{ℕ, _+_, _-_, _*_, _%_, _≤_, _<_}
+use mathlib.Core.Path.{_≡_, refl}
 use mathlib.Core.Bool.{Bool, true, false, cond, _&&_}
 use mathlib.Core.List.{List}
 use native.Mathlib.Nat.{mod-lt}
 use native.Mathlib.Omega.{arith}
 use lib.Dec.{eqb, leb, ltb}
 use lib.ListN.{length, drop, length-drop}
-use borrow.Author.Tests.{leb-true, ltb-true, eqb-true}
+use borrow.Author.Tests.{leb-true, ltb-true}
 use Rattle.model.specs.Bytes.{part, number, same}
 use Rattle.model.specs.Layout.{groupOffset}
 use Rattle.model.specs.Batch.{groupWriteMark, homeWriteMark, headerWriteMark, fenceMark}
 use Rattle.model_laws.proofs.state.QuestionLaws.{and-true}
 use Rattle.object_runner.specs.declared.Cursor.{Cursor}
 use Rattle.object_runner.specs.declared.Action.{Action}
-use Rattle.object_runner.specs.Next.{cursor, done, writing, fencing, refused, logArea, homesArea, fromBatch, fromCopy, bare, write, past, parts, groupAction, homeAction, wiping, wholeHeader, wipeAction, headerAction, due, dueAction, fenceAction, recordAction, asked, nextAction}
+use Rattle.object_runner.specs.Next.{cursor, done, fencing, refused, logArea, homesArea, fromBatch, fromCopy, bare, write, past, parts, groupAction, homeAction, wiping, wholeHeader, wipeAction, headerAction, due, dueAction, fenceAction, recordAction, asked, nextAction}
 use Rattle.object_runner.specs.Inside.{areaSize, sourceSize, Fits, Inside}
 use Rattle.object_runner.proofs.AskedLaws.{Asked, asked-true}
 

@@ -4,7 +4,7 @@ use mathlib.Core.Path.{_≡_, refl, sym, ap, _∙_, subst}
 use mathlib.Core.Bool.{Bool, true, false, cond, not, _&&_}
 use mathlib.Core.List.{List, [], _∷_, _++_, append-assoc, append-nil}
 use native.Mathlib.Omega.{arith}
-use lib.Dec.{eqb, leb}
+use lib.Dec.{eqb}
 use lib.ListN.{length, take, drop, length-append}
 use lib.Seq.{drop-at}
 use borrow.Author.Tests.{le-leb, lt-ltb, le-ltb, eq-eqb, ne-eqb}
@@ -22,7 +22,7 @@ use Rattle.object.proofs.HeadLaws.{rest-drop}
 use Rattle.object_runner.specs.declared.Cursor.{Cursor}
 use Rattle.object_runner.specs.declared.Action.{Action}
 use Rattle.object_runner.specs.Next.{cursor, done, fencing, logArea, homesArea, fromBatch, fromCopy, bare, write, past, parts, groupAction, homeAction, wiping, wholeHeader, wipeAction, headerAction, due, dueAction, fenceAction, recordAction, asked, nextAction}
-use Rattle.object_runner.proofs.AskedLaws.{Asked, true-asked}
+use Rattle.object_runner.proofs.AskedLaws.{true-asked}
 use Rattle.object_runner.specs.Moves.{landingOf, bytesOf, pieceOf, Hands, wordsFrom, wordsDue, headedAt, headedAfter, Due, Fitting, RunnerMoves}
 
 unfoldable isWords : Grain → Bool

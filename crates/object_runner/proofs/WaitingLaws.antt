@@ -1,8 +1,8 @@
 -- The first words that wait, and those of the log copy, as lists. Assumes nothing.
 use Prim.Native.Nat.{ℕ, zero, suc, _+_, _%_, _≤_, _<_}
 use mathlib.Core.Path.{_≡_, refl, sym, ap, _∙_}
-use mathlib.Core.Bool.{Bool, true, false, cond, _&&_, and-eq-true-iff, false≢true}
-use mathlib.Core.List.{List, [], _∷_, _++_, append-assoc, append-nil}
+use mathlib.Core.Bool.{true, false, and-eq-true-iff, false≢true}
+use mathlib.Core.List.{List, [], _∷_, _++_}
 use native.Mathlib.Omega.{arith}
 use lib.Dec.{eqb}
 use lib.ListN.{length, take, length-append}
@@ -10,7 +10,7 @@ use borrow.Author.Tests.{eqb-true}
 use Rattle.model.specs.Bytes.{part, zeros, same}
 use Rattle.model.specs.Layout.{groupMark, groupOffset, groupAt}
 use Rattle.model.specs.Batch.{Record, GW, HW, KW, FN}
-use Rattle.model.specs.Crash.{Piece, toLog}
+use Rattle.model.specs.Crash.{toLog}
 use Rattle.model_laws.proofs.bytes.ByteLaws.{part-within}
 use Rattle.model_laws.proofs.trace.CrashLaws.{submits}
 use Rattle.model_laws.proofs.trace.MixLaws.{Mixed, groupPart}
