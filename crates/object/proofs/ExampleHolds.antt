@@ -37,7 +37,7 @@ use Rattle.object.proofs.RunnerHolds.{demand-runner}
 
 -- A world with another book: no call looks at it
 
-unfoldable withBook : World → Book → World
+unfoldable pub withBook : World → Book → World
 withBook w b =
     record {
       homes = w .homes;
@@ -69,14 +69,14 @@ service-book w b (roundSteps homes batch) = refl
 service-book w b (trims batch) = refl
 service-book w b (reads writer home block) = refl
 
-ends-book : (w : World) (b : Book) (c : Call) → ends (withBook w b) c ≡ ends w c
+pub ends-book : (w : World) (b : Book) (c : Call) → ends (withBook w b) c ≡ ends w c
 unfolding ends
 ends-book w b (opening state newest batch) = unfold withBook loaded in refl
 ends-book w b confirm = unfold withBook lent in refl
 ends-book w b (change c) = change-book w b c
 ends-book w b (service c) = service-book w b c
 
-call-book : (w : World) (b : Book) (c : Call) → (d : Book) × (step (withBook w b) (call c) ≡ withBook (step w (call c)) d)
+pub call-book : (w : World) (b : Book) (c : Call) → (d : Book) × (step (withBook w b) (call c) ≡ withBook (step w (call c)) d)
 unfolding step
 call-book w b c = rw (ends-book w b c) (go (ends w c) (ends w c .code))
   where
@@ -84,7 +84,7 @@ call-book w b c = rw (ends-book w b c) (go (ends w c) (ends w c .code))
     go o zero = (feed b c (o .figure), unfold afterCall afterDone withBook in refl)
     go o (suc code) = (b, unfold afterCall afterRefused withBook in refl)
 
-cut-book : (w : World) (b : Book) (left : Memory) (passed : ℕ) (c : ℕ → Bool)
+pub cut-book : (w : World) (b : Book) (left : Memory) (passed : ℕ) (c : ℕ → Bool)
     → (d : Book) × (tears (withBook w b) (torn passed c left) ≡ withBook (tears w (torn 0 (λ i. false) left)) d)
 cut-book w b left passed c =
     (book.crash b (rowFates (withBook w b) passed c), unfold tears withMemory afterCrash withBook in refl)
@@ -97,7 +97,7 @@ alike-true true b e = sym e
 alike-true false true e = absurd (false≢true e)
 alike-true false false e = refl
 
-allowed-true : (w : World) (e : Event) → allowed w e ≡ true → Allowed w e
+pub allowed-true : (w : World) (e : Event) → allowed w e ≡ true → Allowed w e
 unfolding allowed
 allowed-true w (call c) h = alike-true (isOpening c) (not (w .ready)) h
 allowed-true w (crash passed chosen) h =
@@ -256,7 +256,7 @@ met-torn G (torn passed chosen left ∷ ts) w h =
 -- Computed
 
 -- a name that unfolds every definition below
-unfoldable computed : Bool
+unfoldable pub computed : Bool
 unfolding all-definitions unitOf chopLog chopArea chop chopAll writes fences-of loses hole rewrites withMemory tears motions parted body head headsOut wipe moves moved unformatted openAgain alone asDoings third other all history opens givesAlone answered upTo behind carriedOut runsTo runsAsListed twoCommits tornMemory asTearings tearings slotsAlike numbersBelow homesAlike isAlike tearsTo wholeMemory damaged healing opensWith events
 computed = true
 
@@ -290,6 +290,11 @@ pub torn-apart : same (tornMemory .log) (wholeMemory .log) ≡ false
 unfolding computed
 torn-apart = refl
 
+-- but it opens
+pub torn-opens : opensWith tornMemory ≡ 0
+unfolding computed
+torn-opens = refl
+
 -- a format's first motions heal nothing
 pub damage-stays : (opensWith damaged ≡ 3) × (opensWith healing ≡ 3)
 unfolding computed
@@ -297,7 +302,7 @@ damage-stays = (refl, refl)
 
 -- So the theorems say something of them
 
-own-book : withBook (emptyStore 4 4) book.empty ≡ emptyStore 4 4
+pub own-book : withBook (emptyStore 4 4) book.empty ≡ emptyStore 4 4
 unfolding withBook emptyStore unopened
 own-book = refl
 
@@ -308,7 +313,7 @@ runner-there =
     (rw (after-format format)
     (subst (λ (w : World). Met words w history) own-book (met words history (emptyStore 4 4) book.empty answered _ runs-as-listed)))
 
-met-tearings : AllTearingsAllowed 4 (afterFormat format) tearings
+pub met-tearings : AllTearingsAllowed 4 (afterFormat format) tearings
 met-tearings = rw (after-format format) (met-torn 4 tearings (emptyStore 4 4) torn-as-listed)
 
 pub torn-there : AllTearingsHold (afterFormat format) tearings
