@@ -1,12 +1,10 @@
 -- The moments of specs/Example meet the premise of RunnerMoves, and its history that of RunnerCarries, which therefore say something of them.
 use Prim.Native.Nat.{ℕ, _≤_}
 use mathlib.Core.Path.{_≡_, refl, sym, ap, _∙_, subst}
-use mathlib.Core.Bool.{Bool, true, false, not}
-use mathlib.Core.List.{List, [], _∷_, _++_}
-use native.Mathlib.Omega.{arith}
+use mathlib.Core.Bool.{Bool, true, false}
+use mathlib.Core.List.{List, [], _∷_, _++_, append-assoc}
 use lib.Dec.{leb}
-use borrow.Author.Tests.{leb-true, ltb-true}
-use Rattle.model.specs.Batch.{batchBytes}
+use borrow.Author.Tests.{leb-true}
 use Rattle.model.specs.Effects.{formatted}
 use Rattle.model.specs.Calls.{Outcome}
 use Rattle.model.specs.Crash.{Memory}
@@ -19,17 +17,15 @@ use Rattle.model.proofs.examples.Computing.{all-definitions}
 use Rattle.model_laws.proofs.state.QuestionLaws.{and-true}
 use Rattle.theorems.proofs.steps.FormatRuns.{after-format}
 use Rattle.object.specs.Medium.{Grain, words}
-use Rattle.object.specs.Alike.{Tearing, torn, withMemory, tears, tornAfter, AllTearingsAllowed}
+use Rattle.object.specs.Alike.{Tearing, plain, torn, withMemory, tears, tornAfter, AllTearingsAllowed}
 use Rattle.object.specs.Order.{Motion, parted, head, motions, Left}
 use Rattle.object.specs.Runner.{Doing, calls as runs, cuts}
-use Rattle.object.specs.Example.{openAgain as openSmall, twoCommits as twoGroups, asTearings, tornMemory, opensWith}
+use Rattle.object.specs.Example.{openAgain as openSmall, twoCommits as twoGroups, asTearings, tearings, tornMemory, opensWith}
 use Rattle.object.proofs.ExampleHolds.{computed as torn-definitions, withBook, ends-book, call-book, cut-book, allowed-true, own-book, format, met-tearings, torn-opens}
-use Rattle.object_runner.specs.Next.{cursor}
-use Rattle.object_runner.specs.Moves.{Hands, wordsFrom, wordsDue, headedAt, headedAfter, waitingAfter, Due, Fitting}
+use Rattle.object_runner.specs.Moves.{wordsFrom, wordsDue, headedAt, waitingAfter, Due}
 use Rattle.object_runner.specs.Always.{batchOf, recordsOf, nextOf, headedBefore, BatchDue}
 use Rattle.object_runner.specs.Carries.{leastAfter, leftBy, AllCarried}
-use Rattle.object_runner.specs.Example.{fills, twoCommits, before, settled, reopened, DueAt, figures, cutShort, mayCarry, Goes}
-use Rattle.object_runner.proofs.MovesHold.{runner-moves}
+use Rattle.object_runner.specs.Example.{fills, twoCommits, before, settled, reopened, DueAt, figures, tornFront, cutShort, mayCarry, Goes}
 use Rattle.object_runner.proofs.DueHolds.{due-always}
 use Rattle.object_runner.proofs.CarriesHold.{runner-carries}
 
@@ -66,23 +62,6 @@ due-at-opening = (refl, (refl, (refl, tt)))
 pub due-at-format : (log : List ℕ) → Due words 4 log 0 0 [] (formatted 4 8)
 unfolding computed
 due-at-format log = (refl, (refl, (refl, tt)))
-
--- and so RunnerMoves says of the flush
-fitting : Fitting 4 8 (recordsOf (ends before (flush room)))
-unfolding computed
-fitting = ((ltb-true 1 4 refl, refl), tt)
-
-low : headedBefore before (flush room) ≤ nextOf (ends before (flush room))
-unfolding computed
-low = leb-true 4 6 refl
-
-pub moves-there :
-    Hands words 4 8 (nextOf (ends before (flush room))) (batchBytes (recordsOf (ends before (flush room)))) (ends before (flush room) .log)
-    (cursor 0 (headedBefore before (flush room)) 0) (motions words (waitingAfter words [] (before .pending)) (recordsOf (ends before (flush room))))
-    (headedAfter words (headedBefore before (flush room)) (nextOf (ends before (flush room))) (recordsOf (ends before (flush room))))
-moves-there =
-    runner-moves words 4 8 (nextOf (ends before (flush room))) (headedBefore before (flush room)) (ends before (flush room) .log)
-    (waitingAfter words [] (before .pending)) (recordsOf (ends before (flush room))) (omega arith) (omega arith) (omega arith) low fitting due-at-flush
 
 -- ---- RunnerCarries
 
@@ -152,3 +131,32 @@ carries-there =
 tearings-front : (G : ℕ) (w : World) (ts us : List Tearing) → AllTearingsAllowed G w (ts ++ us) → AllTearingsAllowed G w ts
 tearings-front G w [] us a = tt
 tearings-front G w (t ∷ ts) us a = (a .0, tearings-front G (tears w t) ts us (a .1))
+
+after-last : (w : World) (ts : List Tearing) (t : Tearing) → tornAfter w (ts ++ (t ∷ [])) ≡ tears (tornAfter w ts) t
+unfolding tornAfter
+after-last w [] t = refl
+after-last w (s ∷ ts) t = after-last (tears w s) ts t
+
+met-front : AllTearingsAllowed 4 (afterFormat format) tornFront
+unfolding tornFront tearings
+met-front =
+    tearings-front 4 (afterFormat format) (asTearings twoGroups ++ (torn 4 (λ i. false) tornMemory ∷ [])) (plain (call openSmall) ∷ [])
+    (subst (AllTearingsAllowed 4 (afterFormat format)) (sym (append-assoc (asTearings twoGroups) (torn 4 (λ i. false) tornMemory ∷ []) (plain (call openSmall) ∷ []))) met-tearings)
+
+abbrev cutTorn : World
+cutTorn = tears (tornAfter (afterFormat format) (asTearings twoGroups)) (torn 4 (λ i. false) tornMemory)
+
+is-torn : tornAfter (afterFormat format) tornFront ≡ cutTorn
+unfolding tornFront
+is-torn = after-last (afterFormat format) (asTearings twoGroups) (torn 4 (λ i. false) tornMemory)
+
+may-open : Allowed cutTorn (call openSmall)
+unfolding tears withMemory afterCrash openSmall isOpening
+may-open = refl
+
+opens-torn : ends cutTorn openSmall .code ≡ 0
+unfolding tears withMemory ends loaded openSmall opensWith unopened
+opens-torn = torn-opens
+
+pub due-torn : BatchDue words 4 4 (tornAfter (afterFormat format) tornFront) openSmall
+due-torn = due-always words 4 4 format tornFront met-front openSmall (rw is-torn may-open) (rw is-torn opens-torn)

@@ -12,10 +12,10 @@ use Rattle.model.specs.History.{Call, begin, store, commit, flush, settle, conf
 use Rattle.model.specs.examples.Trials.{room, fill}
 use Rattle.model.specs.examples.Witnesses.{openAgain, allowed}
 use Rattle.object.specs.Medium.{Grain, words}
-use Rattle.object.specs.Alike.{torn, tears}
+use Rattle.object.specs.Alike.{Tearing, torn, tears}
 use Rattle.object.specs.Order.{Motion, motions, Left}
 use Rattle.object.specs.Runner.{Doing, calls as runs, cuts}
-use Rattle.object.specs.Example.{openAgain as openSmall, alone, asDoings, other}
+use Rattle.object.specs.Example.{openAgain as openSmall, twoCommits as twoGroups, asTearings, tornMemory, alone, asDoings, other}
 use Rattle.object_runner.specs.Next.{cursor}
 use Rattle.object_runner.specs.Moves.{Hands, waitingAfter, Due}
 use Rattle.object_runner.specs.Always.{batchOf, recordsOf, nextOf, headedBefore}
@@ -49,6 +49,10 @@ DueAt w c = Due words 4 (ends w c .log) (nextOf (ends w c)) (headedBefore w c) (
 unfoldable pub figures : World → Call → List ℕ
 figures w c =
     headedBefore w c ∷ nextOf (ends w c) ∷ length (waitingAfter words [] (w .pending)) ∷ length (recordsOf (ends w c)) ∷ fences (recordsOf (ends w c)) ∷ []
+
+-- A history for DueAlways (G 4, D 4): the second of two groups is cut with every other word of its body. Then an opening comes.
+unfoldable pub tornFront : List Tearing
+tornFront = asTearings twoGroups ++ (torn 4 (λ i. false) tornMemory ∷ [])
 
 -- A history for RunnerCarries (G 4, D 4): a commit is confirmed, the next one's group is cut in the middle of its body, and the first comes back.
 unfoldable pub cutShort : List Doing
