@@ -97,9 +97,13 @@ alike-true true b e = sym e
 alike-true false true e = absurd (false≢true e)
 alike-true false false e = refl
 
-pub allowed-true : (w : World) (e : Event) → allowed w e ≡ true → Allowed w e
+pub call-allowed : (w : World) (c : Call) → allowed w (call c) ≡ true → isOpening c ≡ not (w .ready)
 unfolding allowed
-allowed-true w (call c) h = alike-true (isOpening c) (not (w .ready)) h
+call-allowed w c h = alike-true (isOpening c) (not (w .ready)) h
+
+allowed-true : (w : World) (e : Event) → allowed w e ≡ true → Allowed w e
+unfolding allowed
+allowed-true w (call c) h = call-allowed w c h
 allowed-true w (crash passed chosen) h =
     let k = and-true (leb (w .passed) passed) (leb passed (fences (w .pending))) h in
     (leb-true (w .passed) passed (k .0), leb-true passed (fences (w .pending)) (k .1))

@@ -21,7 +21,7 @@ use Rattle.object.specs.Alike.{Tearing, plain, torn, withMemory, tears, tornAft
 use Rattle.object.specs.Order.{Motion, parted, head, motions, Left}
 use Rattle.object.specs.Runner.{Doing, calls as runs, cuts}
 use Rattle.object.specs.Example.{openAgain as openSmall, twoCommits as twoGroups, asTearings, tearings, tornMemory, opensWith}
-use Rattle.object.proofs.ExampleHolds.{computed as torn-definitions, withBook, ends-book, call-book, cut-book, allowed-true, own-book, format, met-tearings, torn-opens}
+use Rattle.object.proofs.ExampleHolds.{computed as torn-definitions, withBook, ends-book, call-book, cut-book, call-allowed, own-book, format, met-tearings, torn-opens}
 use Rattle.object_runner.specs.Moves.{wordsFrom, wordsDue, headedAt, waitingAfter, Due}
 use Rattle.object_runner.specs.Always.{batchOf, recordsOf, nextOf, headedBefore, BatchDue}
 use Rattle.object_runner.specs.Carries.{leastAfter, leftBy, AllCarried}
@@ -78,7 +78,7 @@ met l (runs c ∷ ds) w b least h =
     let next : ℕ = leastAfter c (ends w c) (motions l [] (w .pending)) least in
     let k = and-true (allowed w (call c)) (mayCarry l (afterCall w c (ends w c) (ends w c .code)) next ds) h in
     let n = call-book w b c in (
-      allowed-true w (call c) (k .0),
+      call-allowed w c (k .0),
       subst (λ (v : World). Met l v (leastAfter c (ends (withBook w b) c) (motions l [] (w .pending)) least) ds) (sym (n .1))
           (subst (λ (o : Outcome). Met l (withBook (step w (call c)) (n .0)) (leastAfter c o (motions l [] (w .pending)) least) ds) (sym (ends-book w b c))
           (met l ds (step w (call c)) (n .0) next (k .1))),

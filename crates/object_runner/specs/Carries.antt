@@ -57,7 +57,7 @@ abbrev pub RunnerCarries : Type 0
 RunnerCarries =
     (l : Grain) (groups homes : ℕ) (f : Formatting groups homes) (ds : List Doing) → AllCarried l groups homes (afterFormat f) 0 [] 0 ds
 
--- The actions of a format's batch are its motions too, which FormatCutRunner speaks of; no first word is due, whatever group is told as the next.
+-- The actions of a format's batch are its motions too, which FormatCutRunner speaks of; no first word is due, whatever group is told as the next. [S-85]
 abbrev pub RunnerFormats : Type 0
 RunnerFormats =
     (l : Grain) (groups homes : ℕ) (f : Formatting groups homes) (next : ℕ) (log : List ℕ) →
