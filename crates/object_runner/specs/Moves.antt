@@ -70,7 +70,8 @@ waitingAfter l waiting (HW home block ∷ rs) = waitingAfter l waiting rs
 waitingAfter l waiting (KW header ∷ rs) = waitingAfter l waiting rs
 waitingAfter l waiting (FN ∷ rs) = waitingAfter l [] rs
 
--- the premise: at each fence the first words that wait are those of the groups from `headed` to below the next one
+-- the premise: at each fence the first words that wait are those of the groups from `headed` to below the next one. Every batch of every history meets it
+-- (Always.antt).
 abbrev pub Due : Grain → ℕ → List ℕ → ℕ → ℕ → List Motion → List Record → Type 0
 Due l groups log next headed waiting [] = Unit {0}
 Due l groups log next headed waiting (GW slot group ∷ rs) = Due l groups log next headed (waiting ++ head l slot group) rs
@@ -99,7 +100,7 @@ abbrev pub BlocksDue : Type 0
 BlocksDue = (groups next headed : ℕ) (log : List ℕ) (rs : List Record) → Due blocks groups log next headed [] rs
 
 -- Batch by batch: the motions of a batch go on from those of all records before it, the first words that wait among them. So where `Due` holds of each, the
--- actions of all batches since the last cut are `motions l [] (w .pending)`, which DemandRunner speaks of.
+-- actions of all batches since the last cut are `motions l [] (w .pending)`, which DemandRunner speaks of (Carries.antt).
 abbrev pub MotionsGoOn : Type 0
 MotionsGoOn =
     (l : Grain) (before rs : List Record) → motions l [] (before ++ rs) ≡ motions l [] before ++ motions l (waitingAfter l [] before) rs
