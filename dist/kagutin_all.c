@@ -8166,14 +8166,14 @@ struct kgt_progress kgt_maintain(struct kagutin *store, uint64_t most)
 
 /* What the state tells of a log: its numbers, and who holds it back. */
 
+static uint64_t half_number(const uint8_t *bytes)
+{
+    return bytes[0] | (uint32_t)bytes[1] << 8 | (uint32_t)bytes[2] << 16 | (uint32_t)bytes[3] << 24;
+}
+
 uint64_t kgt_inner_number(const uint8_t *state, size_t at)
 {
-    uint64_t value = 0;
-    size_t i;
-
-    for (i = 8; i > 0; i--)
-        value = value << 8 | state[at + i - 1];
-    return value;
+    return half_number(state + at) | half_number(state + at + 4) << 32;
 }
 
 uint64_t kgt_inner_holder(const uint8_t *state, uint64_t *first)
@@ -8413,22 +8413,25 @@ static int carry_out(const struct kgt_runner *runner, const uint8_t *batch, cons
 
 int kgt_run(struct kgt_runner *runner, const uint8_t *batch, size_t size)
 {
-    uint64_t next = runner->state ? kgt_inner_number(runner->state, STATE_NEXT) : 0;
-    struct kagutin_action now = {0};
-    int error;
+    uint64_t next, at = 0, stage = 0;
 
+    if (size == 0)
+        return 0;
+    next = runner->state ? kgt_inner_number(runner->state, STATE_NEXT) : 0;
     if (runner->headed == KGT_NONE_WAITS)
         runner->headed = next;
-    for (;;) {
-        now = kagutin_next_action(batch, size, runner->driver.landing, runner->groups, runner->homes, next, now.at,
-                                  runner->headed, now.stage);
-        if (now.kind == KAGUTIN_ALL_DONE)
-            return 0;
-        error = carry_out(runner, batch, &now);
+    while (at < size) {
+        const struct kagutin_action now = kagutin_next_action(batch, size, runner->driver.landing, runner->groups, runner->homes,
+                                                              next, at, runner->headed, stage);
+        int error = carry_out(runner, batch, &now);
+
         if (error)
             return error;
+        at = now.at;
+        stage = now.stage;
         runner->headed = now.headed;
     }
+    return 0;
 }
 
 int kgt_run_record(struct kgt_runner *runner, const struct kgt_record *record)

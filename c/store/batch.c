@@ -58,22 +58,25 @@ static int carry_out(const struct kgt_runner *runner, const uint8_t *batch, cons
 
 int kgt_run(struct kgt_runner *runner, const uint8_t *batch, size_t size)
 {
-    uint64_t next = runner->state ? kgt_inner_number(runner->state, STATE_NEXT) : 0;
-    struct kagutin_action now = {0};
-    int error;
+    uint64_t next, at = 0, stage = 0;
 
+    if (size == 0)
+        return 0;
+    next = runner->state ? kgt_inner_number(runner->state, STATE_NEXT) : 0;
     if (runner->headed == KGT_NONE_WAITS)
         runner->headed = next;
-    for (;;) {
-        now = kagutin_next_action(batch, size, runner->driver.landing, runner->groups, runner->homes, next, now.at,
-                                  runner->headed, now.stage);
-        if (now.kind == KAGUTIN_ALL_DONE)
-            return 0;
-        error = carry_out(runner, batch, &now);
+    while (at < size) {
+        const struct kagutin_action now = kagutin_next_action(batch, size, runner->driver.landing, runner->groups, runner->homes,
+                                                              next, at, runner->headed, stage);
+        int error = carry_out(runner, batch, &now);
+
         if (error)
             return error;
+        at = now.at;
+        stage = now.stage;
         runner->headed = now.headed;
     }
+    return 0;
 }
 
 int kgt_run_record(struct kgt_runner *runner, const struct kgt_record *record)
