@@ -3,7 +3,7 @@
 
 #include "kagutin_all.h"
 
-#define OBJECT_SIZE 640 /* Object of src/ffi.rs */
+#define OBJECT_SIZE 256 /* Object of src/ffi.rs */
 
 typedef char object_fits[sizeof(struct kagutin) <= OBJECT_SIZE ? 1 : -1];
 
