@@ -165,6 +165,43 @@ static void check_batches(enum kgt_landing landing)
     }
 }
 
+/* ---- what is no batch ---- */
+
+/* Refused with the cursor as it was asked, and nothing else. */
+static void refused(const char *mark, uint64_t place, size_t count, uint64_t landing, uint64_t slots, uint64_t at)
+{
+    struct kagutin_action now, none = {KAGUTIN_REFUSED, 0, 0, 0, 0, 0, 0, 5, 0};
+
+    memset(batch, 0, sizeof batch);
+    memcpy(batch, mark, 2);
+    put_number(batch + 2, place, 2);
+    none.at = at;
+    now = kagutin_next_action(batch, count, landing, slots, HOMES, 7, at, 5, 0);
+    if (memcmp(&now, &none, sizeof now) != 0)
+        wrong("what is no batch is handed out", (unsigned long)count);
+}
+
+static void check_refusals(void)
+{
+    static const char *const marks[] = {"GX", "HX", "KX", "FX", "XW", "XN"};
+    unsigned i;
+
+    for (i = 0; i < sizeof marks / sizeof marks[0]; i++)
+        refused(marks[i], 0, KAGUTIN_GW_SIZE, KGT_LANDS_WORDS, GROUPS, 0);
+    refused("FN", 0, KAGUTIN_FN_SIZE, 2, GROUPS, 0);
+    refused("FN", 0, KAGUTIN_FN_SIZE, KGT_LANDS_WORDS, 0, 0);
+    refused("FN", 0, KAGUTIN_FN_SIZE, KGT_LANDS_WORDS, KAGUTIN_MAX_GROUPS + 1, 0);
+    refused("FN", 0, KAGUTIN_FN_SIZE, KGT_LANDS_WORDS, GROUPS, 3);
+    refused("FN", 0, 1, KGT_LANDS_WORDS, GROUPS, 0);
+    refused("GW", 0, KAGUTIN_GW_SIZE - 1, KGT_LANDS_WORDS, GROUPS, 0);
+    refused("GW", GROUPS, KAGUTIN_GW_SIZE, KGT_LANDS_WORDS, GROUPS, 0);
+    refused("HW", 0, KAGUTIN_HW_SIZE - 1, KGT_LANDS_BLOCKS, GROUPS, 0);
+    refused("HW", HOMES, KAGUTIN_HW_SIZE, KGT_LANDS_BLOCKS, GROUPS, 0);
+    refused("KW", 0, KAGUTIN_KW_SIZE - 1, KGT_LANDS_BLOCKS, GROUPS, 0);
+    if (kagutin_next_action(batch, 2, KGT_LANDS_WORDS, GROUPS, HOMES, 7, 2, 5, 0).kind != KAGUTIN_ALL_DONE)
+        wrong("a batch that is done", 0);
+}
+
 /* ---- histories ---- */
 
 #define AREAS log_copy, KGT_LOG_SIZE(groups), area, sizeof area
@@ -273,6 +310,7 @@ static void check_histories(enum kgt_landing landing)
 
 int main(void)
 {
+    check_refusals();
     check_batches(KGT_LANDS_WORDS);
     check_batches(KGT_LANDS_BLOCKS);
     printf("runner_check: random batches: the same driver calls, %lu, of them %lu first words\n", traced_calls, traced_words);
