@@ -3,7 +3,8 @@
  * of all of them wait for the sync. Power goes after every few bytes, and of the
  * words since the last fence none, all or any arrive; what comes back is a prefix
  * of the commits, whole, and all of them once a sync is done. Before that none
- * of the first words is written, so without a sync nothing comes back.
+ * of the first words is written, so without a sync nothing comes back. And words
+ * that wait when the driver fails are forgotten by the next opening or format.
  */
 /* Clauses: [S-54, S-55, S-57, S-82] */
 #include <stdio.h>
@@ -28,10 +29,30 @@ static void check(bool right, const char *what, unsigned long at)
     exit(1);
 }
 
+static struct kgt_driver inner;
+static unsigned long calls; /* writes and fences so far */
+
+static int counted_write(void *context, enum kgt_area area, size_t at, const uint8_t *bytes, size_t size)
+{
+    calls++;
+    return inner.write(context, area, at, bytes, size);
+}
+
+static int counted_fence(void *context)
+{
+    calls++;
+    return inner.fence(context);
+}
+
 static void power_on(void)
 {
+    struct kgt_driver driver;
+
     kgt_memory_init(&medium, lasting, written, GROUPS, HOMES);
-    check(kgt_init(&store, memory, sizeof memory, GROUPS, HOMES, kgt_memory_driver(&medium)).code == KAGUTIN_DONE, "init", 0);
+    driver = inner = kgt_memory_driver(&medium);
+    driver.write = counted_write;
+    driver.fence = counted_fence;
+    check(kgt_init(&store, memory, sizeof memory, GROUPS, HOMES, driver).code == KAGUTIN_DONE, "init", 0);
 }
 
 /* Each commit fills one group; how many were committed, and whether the sync behind them was done. */
@@ -105,6 +126,38 @@ static void check_cuts(bool (*lands)(void *context, size_t at), unsigned every, 
     printf("heads_check: %lu cuts, %s of the words since the last fence\n", cuts, what);
 }
 
+/* Driver calls of an opening, or of a format. */
+static unsigned long calls_of(bool opens)
+{
+    unsigned long before = calls;
+
+    check((opens ? kgt_open(&store).code : kgt_format(&store, scratch, sizeof scratch).code) == KAGUTIN_DONE, "anew", opens);
+    return calls - before;
+}
+
+/* The driver fails while first words wait. Of these the next opening or format knows nothing: it makes the calls of one that a start makes. */
+static void check_failures(bool opens)
+{
+    static uint8_t left[sizeof lasting];
+    unsigned long again;
+    bool synced;
+
+    memcpy(lasting, formatted, sizeof lasting);
+    power_on();
+    check(kgt_open(&store).code == KAGUTIN_DONE, "an opening", 0);
+    check(work(&synced) == COMMITS && synced, "a sync", 0);
+    check(kgt_maintain(&store, 0).code == KAGUTIN_DONE, "room", 0);
+    kgt_memory_stop_after(&medium, (uint64_t)(COMMITS / 2) * KAGUTIN_GROUP_SIZE);
+    check(work(&synced) < COMMITS && kgt_sync(&store).code == KGT_DRIVER_FAILED, "a failure", 0);
+    kgt_memory_cut(&medium, by_chance, NULL);
+    memcpy(left, lasting, sizeof left);
+    again = calls_of(opens);
+    memcpy(lasting, left, sizeof lasting);
+    power_on();
+    check(calls_of(opens) == again, "calls after a failure", again);
+    printf("heads_check: %lu driver calls of %s after a failure, as after a start\n", again, opens ? "an opening" : "a format");
+}
+
 int main(void)
 {
     power_on();
@@ -113,5 +166,7 @@ int main(void)
     check_cuts(none, 41, "none");
     check_cuts(NULL, 43, "all");
     check_cuts(by_chance, 5, "any");
+    check_failures(true);
+    check_failures(false);
     return 0;
 }
