@@ -72,7 +72,7 @@ fi
 made=target/staticlib/lib$crate.a
 if [ "$made" != "$archive" ]; then cp "$made" "$archive"; else touch "$archive"; fi
 for name in "${more[@]}"; do
-    ar x --output=target/staticlib "target/staticlib/lib$name.a" "$name.o" && ar rs "$archive" "target/staticlib/$name.o" 2> /dev/null \
-        && rm "target/staticlib/$name.o" "target/staticlib/lib$name.a" || exit 1
+    ar p "target/staticlib/lib$name.a" "$name.o" > "target/staticlib/$name.o" && ar rs "$archive" "target/staticlib/$name.o" 2> /dev/null || exit 1
+    rm -f "target/staticlib/$name.o" "target/staticlib/lib$name.a"
 done
 echo "library: $total crate$([ "$total" -eq 1 ] || echo s) proved, $archive written, $(clock)"
