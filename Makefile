@@ -42,7 +42,6 @@ ARCHIVE = target/staticlib/libkagutin.a
 GAUGES_ARCHIVE = target/staticlib/libgauges.a
 INFLOW_ARCHIVE = target/staticlib/libinflow.a
 ARCHIVES = $(ARCHIVE) $(GAUGES_ARCHIVE) $(INFLOW_ARCHIVE)
-RUNNER_ARCHIVE = target/staticlib/libobject_runner.a
 
 .PHONY: all help run quick test test-library test-compared test-c compare play bench bench-docs reference library clean
 
@@ -63,13 +62,14 @@ include make/safety.mk
 # Archives are made from proved crates only; rt proves what has changed, and a changed definition or proof counts as well.
 library: $(ARCHIVE)
 
-# Archive and the crate that it is of: the standalone ones have a prefix.
+# Archive and the crate that it is of: the standalone ones have a prefix. The store's has the runner, too.
 crate_of = $(if $(filter $(1),$(STANDALONE)),alone_)$(1)
+more_of = $(if $(filter $(1),kagutin),$(filter-out kagutin,$(EXPORTS)))
 define ARCHIVE_OF
-target/staticlib/lib$(1).a: crates.txt $$(shell find crates.txt $(addprefix crates/,$(shell scripts/library.sh --crates $(call crate_of,$(1)))) -name '*.rt' -o -name '*.antt')
-	@scripts/library.sh $(call crate_of,$(1)) $(1)
+target/staticlib/lib$(1).a: crates.txt $$(shell find crates.txt $(addprefix crates/,$(shell scripts/library.sh --crates $(call crate_of,$(1)) $(call more_of,$(1)))) -name '*.rt' -o -name '*.antt')
+	@scripts/library.sh $(call crate_of,$(1)) $(1) $(call more_of,$(1))
 endef
-$(foreach name,$(ARCHIVES:target/staticlib/lib%.a=%) object_runner,$(eval $(call ARCHIVE_OF,$(name))))
+$(foreach name,$(ARCHIVES:target/staticlib/lib%.a=%),$(eval $(call ARCHIVE_OF,$(name))))
 
 run: station
 	$(C_OUT)/station --seed $(SEED) --cuts $(CUTS)
@@ -136,15 +136,7 @@ test-library: rust/target/release/bench
 	failed=0; $(MAKE) --no-print-directory test-c > target/test/c.log 2>&1 || failed=1; \
 	wait $$compared || failed=1; cat target/test/compared.log target/test/c.log; exit $$failed
 
-# The proved runner beside the object's.
-.PHONY: runner-compare
-runner-compare: $(RUNNER_ARCHIVE)
-	@mkdir -p target/test
-	$(CC) $(C_FLAGS) tests/store/runner_check.c c/store/batch.c $(RUNNER_ARCHIVE) -o target/test/runner_check
-	target/test/runner_check
-
 test-compared:
-	$(MAKE) --no-print-directory runner-compare
 	$(MAKE) --no-print-directory dist-check
 	$(MAKE) --no-print-directory validate
 	$(MAKE) --no-print-directory validate-quick-check

@@ -192,6 +192,24 @@ struct model__Usage {
     uint64_t first;
 };
 
+struct object_runner__Action {
+    uint64_t kind;
+    uint64_t area;
+    uint64_t offset;
+    uint64_t size;
+    uint64_t source;
+    uint64_t from;
+    uint64_t at;
+    uint64_t headed;
+    uint64_t stage;
+};
+
+struct object_runner__Cursor {
+    uint64_t at;
+    uint64_t headed;
+    uint64_t stage;
+};
+
 #if defined(__GNUC__) && !defined(KAGUTIN_PLAIN_C)
 #define QUICK_C 1
 #else
@@ -244,14 +262,14 @@ static bool are_apart(const struct lent *lent, size_t count)
     return true;
 }
 
-#define ASK_BUFFERS(result, ...) \
+#define ASK_BUFFERS(result, answer, ...) \
     do { \
         const struct lent all_lent[] = {__VA_ARGS__}; \
         if (!are_apart(all_lent, sizeof all_lent / sizeof all_lent[0])) \
-            return (struct result){.code = 63u}; \
+            return (struct result){.answer = 63u}; \
     } while (0);
 #else
-#define ASK_BUFFERS(result, ...)
+#define ASK_BUFFERS(result, answer, ...)
 #endif
 
 /* The number that 2 bytes make, lowest byte first. */
@@ -5463,10 +5481,250 @@ static inline struct model__Usage kagutin__kagutin_usage(struct slice_u8 log, st
     return call_usage__usage(log, area, state);
 }
 
+/* Whether the two bytes of `mark` stand at index `at`. */
+static inline bool object_runner__has_mark(struct slice_u8 s, uint64_t at, struct slice_u8 mark)
+{
+    if (s.ptr[(size_t)at] != mark.ptr[0u]) {
+        return false;
+    }
+    if (s.ptr[(size_t)(at + 1u)] != mark.ptr[1u]) {
+        return false;
+    }
+    return true;
+}
+
+/* Whether a group goes out without its first word: on words, unless that is zeros. */
+static inline bool object_runner__records__parts(struct slice_u8 batch, bool words, uint64_t at)
+{
+    bool t5;
+
+    if (words) {
+        t5 = base_codec__blocks__all_zero(batch, at + 4u, 8u);
+        return !t5;
+    }
+    return false;
+}
+
+/* A group; on words without its first word, unless that is zeros. */
+static inline struct object_runner__Action object_runner__records__group_action(struct slice_u8 batch, bool words,
+        uint64_t groups, struct object_runner__Cursor c)
+{
+    uint64_t t5, t6, t7, t8;
+    struct object_runner__Cursor t9;
+    bool t14;
+
+    t5 = c.at;
+    if (((uint64_t)batch.len - t5) < 516u) {
+        return (struct object_runner__Action){.kind = 3u, .area = 0u, .offset = 0u, .size = 0u, .source = 0u, .from = 0u,
+                .at = c.at, .headed = c.headed, .stage = c.stage};
+    }
+    t6 = load_2(batch.ptr + (size_t)(t5 + 2u));
+    if (groups <= t6) {
+        return (struct object_runner__Action){.kind = 3u, .area = 0u, .offset = 0u, .size = 0u, .source = 0u, .from = 0u,
+                .at = c.at, .headed = c.headed, .stage = c.stage};
+    }
+    t7 = 64u + (512u * t6);
+    t8 = c.at + 4u;
+    t9 = (struct object_runner__Cursor){.at = c.at + 516u, .headed = c.headed, .stage = 0u};
+    t14 = object_runner__records__parts(batch, words, t5);
+    if (t14) {
+        return (struct object_runner__Action){.kind = 1u, .area = 0u, .offset = t7 + 8u, .size = 504u, .source = 0u, .from = t8
+                + 8u, .at = t9.at, .headed = t9.headed, .stage = t9.stage};
+    }
+    return (struct object_runner__Action){.kind = 1u, .area = 0u, .offset = t7, .size = 512u, .source = 0u, .from = t8,
+            .at = t9.at, .headed = t9.headed, .stage = t9.stage};
+}
+
+/* A home. */
+static inline struct object_runner__Action object_runner__records__home_action(struct slice_u8 batch, uint64_t homes,
+        struct object_runner__Cursor c)
+{
+    uint64_t t4, t5;
+    struct object_runner__Cursor t120;
+
+    t4 = c.at;
+    if (((uint64_t)batch.len - t4) < 68u) {
+        return (struct object_runner__Action){.kind = 3u, .area = 0u, .offset = 0u, .size = 0u, .source = 0u, .from = 0u,
+                .at = c.at, .headed = c.headed, .stage = c.stage};
+    }
+    t5 = load_2(batch.ptr + (size_t)(t4 + 2u));
+    if (homes <= t5) {
+        return (struct object_runner__Action){.kind = 3u, .area = 0u, .offset = 0u, .size = 0u, .source = 0u, .from = 0u,
+                .at = c.at, .headed = c.headed, .stage = c.stage};
+    }
+    t120 = (struct object_runner__Cursor){.at = c.at + 68u, .headed = c.headed, .stage = 0u};
+    return (struct object_runner__Action){.kind = 1u, .area = 1u, .offset = 64u * t5, .size = 64u, .source = 0u, .from = c.at
+            + 4u, .at = t120.at, .headed = t120.headed, .stage = t120.stage};
+}
+
+/* Whether a header's first word goes out before the rest: on words, if it is zeros. */
+static inline bool object_runner__records__wiping(struct slice_u8 batch, bool words, uint64_t at)
+{
+    if (words) {
+        return base_codec__blocks__all_zero(batch, at + 2u, 8u);
+    }
+    return false;
+}
+
+/* A header without a mark: its first word, a fence, and then all of it. */
+static inline struct object_runner__Action object_runner__records__wipe_action(struct object_runner__Cursor c)
+{
+    struct object_runner__Cursor t8, t10, t16;
+
+    if (c.stage == 0u) {
+        t8 = (struct object_runner__Cursor){.at = c.at, .headed = c.headed, .stage = 1u};
+        return (struct object_runner__Action){.kind = 1u, .area = 0u, .offset = 0u, .size = 8u, .source = 0u, .from = c.at + 2u,
+                .at = t8.at, .headed = t8.headed, .stage = t8.stage};
+    }
+    if (c.stage == 1u) {
+        t10 = (struct object_runner__Cursor){.at = c.at, .headed = c.headed, .stage = 2u};
+        return (struct object_runner__Action){.kind = 2u, .area = 0u, .offset = 0u, .size = 0u, .source = 0u, .from = 0u,
+                .at = t10.at, .headed = t10.headed, .stage = t10.stage};
+    }
+    t16 = (struct object_runner__Cursor){.at = c.at + 66u, .headed = c.headed, .stage = 0u};
+    return (struct object_runner__Action){.kind = 1u, .area = 0u, .offset = 0u, .size = 64u, .source = 0u, .from = c.at + 2u,
+            .at = t16.at, .headed = t16.headed, .stage = t16.stage};
+}
+
+/* A header. */
+static inline struct object_runner__Action object_runner__records__header_action(struct slice_u8 batch, bool words,
+        struct object_runner__Cursor c)
+{
+    uint64_t t4;
+    bool t8;
+    struct object_runner__Cursor t15;
+
+    t4 = c.at;
+    if (((uint64_t)batch.len - t4) < 66u) {
+        return (struct object_runner__Action){.kind = 3u, .area = 0u, .offset = 0u, .size = 0u, .source = 0u, .from = 0u,
+                .at = c.at, .headed = c.headed, .stage = c.stage};
+    }
+    t8 = object_runner__records__wiping(batch, words, t4);
+    if (t8) {
+        return object_runner__records__wipe_action(c);
+    }
+    t15 = (struct object_runner__Cursor){.at = c.at + 66u, .headed = c.headed, .stage = 0u};
+    return (struct object_runner__Action){.kind = 1u, .area = 0u, .offset = 0u, .size = 64u, .source = 0u, .from = c.at + 2u,
+            .at = t15.at, .headed = t15.headed, .stage = t15.stage};
+}
+
+/* Whether first words are due: on words, those of the groups from `headed` to below the next one. */
+static inline bool object_runner__records__due(bool words, uint64_t headed, uint64_t next)
+{
+    if (words) {
+        return headed < next;
+    }
+    return false;
+}
+
+/* First words are due: a fence, and then each, from the log copy. */
+static inline struct object_runner__Action object_runner__records__due_action(uint64_t groups, struct object_runner__Cursor c)
+{
+    uint64_t t4;
+    struct object_runner__Cursor t10, t12;
+
+    if (c.stage == 0u) {
+        t10 = (struct object_runner__Cursor){.at = c.at, .headed = c.headed, .stage = 1u};
+        return (struct object_runner__Action){.kind = 2u, .area = 0u, .offset = 0u, .size = 0u, .source = 0u, .from = 0u,
+                .at = t10.at, .headed = t10.headed, .stage = t10.stage};
+    }
+    t4 = 64u + (512u * (c.headed % groups));
+    t12 = (struct object_runner__Cursor){.at = c.at, .headed = c.headed + 1u, .stage = 1u};
+    return (struct object_runner__Action){.kind = 1u, .area = 0u, .offset = t4, .size = 8u, .source = 1u, .from = t4,
+            .at = t12.at, .headed = t12.headed, .stage = t12.stage};
+}
+
+/* A fence; where first words are due these come first. */
+static inline struct object_runner__Action object_runner__records__fence_action(bool words, uint64_t groups, uint64_t next,
+        struct object_runner__Cursor c)
+{
+    bool t6;
+    struct object_runner__Cursor t9;
+
+    t6 = object_runner__records__due(words, c.headed, next);
+    if (t6) {
+        return object_runner__records__due_action(groups, c);
+    }
+    t9 = (struct object_runner__Cursor){.at = c.at + 2u, .headed = c.headed, .stage = 0u};
+    return (struct object_runner__Action){.kind = 2u, .area = 0u, .offset = 0u, .size = 0u, .source = 0u, .from = 0u, .at = t9.at,
+            .headed = t9.headed, .stage = t9.stage};
+}
+
+/* The action for the record at the cursor, by its mark. */
+static inline struct object_runner__Action object_runner__record_action(struct slice_u8 batch, bool words, uint64_t groups,
+        uint64_t homes, uint64_t next, struct object_runner__Cursor c)
+{
+    uint64_t t7;
+    struct array_u8_2 t8, t9, t10, t11;
+    bool t12, t15, t18, t21;
+
+    t8 = (struct array_u8_2){{71u, 87u}};
+    t9 = (struct array_u8_2){{72u, 87u}};
+    t10 = (struct array_u8_2){{75u, 87u}};
+    t11 = (struct array_u8_2){{70u, 78u}};
+    t7 = c.at;
+    t12 = object_runner__has_mark(batch, t7, (struct slice_u8){t8.at, 2u});
+    if (t12) {
+        return object_runner__records__group_action(batch, words, groups, c);
+    }
+    t15 = object_runner__has_mark(batch, t7, (struct slice_u8){t9.at, 2u});
+    if (t15) {
+        return object_runner__records__home_action(batch, homes, c);
+    }
+    t18 = object_runner__has_mark(batch, t7, (struct slice_u8){t10.at, 2u});
+    if (t18) {
+        return object_runner__records__header_action(batch, words, c);
+    }
+    t21 = object_runner__has_mark(batch, t7, (struct slice_u8){t11.at, 2u});
+    if (t21) {
+        return object_runner__records__fence_action(words, groups, next, c);
+    }
+    return (struct object_runner__Action){.kind = 3u, .area = 0u, .offset = 0u, .size = 0u, .source = 0u, .from = 0u, .at = c.at,
+            .headed = c.headed, .stage = c.stage};
+}
+
+/* The next action of a batch. `landing` is what the medium keeps whole (0 words of 8 bytes, 1 blocks of 64), `next` the number of
+   the next group that has not been submitted. Whatever is asked: a batch that is none, or a cursor beyond it, is refused. [S-85]
+   */
+static inline struct object_runner__Action object_runner__kagutin_next_action(struct slice_u8 batch, uint64_t landing,
+        uint64_t groups, uint64_t homes, uint64_t next, uint64_t at, uint64_t headed, uint64_t stage)
+{
+    struct object_runner__Cursor t9;
+    uint64_t t10;
+
+    t9 = (struct object_runner__Cursor){.at = at, .headed = headed, .stage = stage};
+    if (1u < landing) {
+        return (struct object_runner__Action){.kind = 3u, .area = 0u, .offset = 0u, .size = 0u, .source = 0u, .from = 0u,
+                .at = t9.at, .headed = t9.headed, .stage = t9.stage};
+    }
+    if (groups < 1u) {
+        return (struct object_runner__Action){.kind = 3u, .area = 0u, .offset = 0u, .size = 0u, .source = 0u, .from = 0u,
+                .at = t9.at, .headed = t9.headed, .stage = t9.stage};
+    }
+    if (1024u < groups) {
+        return (struct object_runner__Action){.kind = 3u, .area = 0u, .offset = 0u, .size = 0u, .source = 0u, .from = 0u,
+                .at = t9.at, .headed = t9.headed, .stage = t9.stage};
+    }
+    t10 = (uint64_t)batch.len;
+    if (t10 < at) {
+        return (struct object_runner__Action){.kind = 3u, .area = 0u, .offset = 0u, .size = 0u, .source = 0u, .from = 0u,
+                .at = t9.at, .headed = t9.headed, .stage = t9.stage};
+    }
+    if (at == t10) {
+        return (struct object_runner__Action){.kind = 0u, .area = 0u, .offset = 0u, .size = 0u, .source = 0u, .from = 0u,
+                .at = t9.at, .headed = t9.headed, .stage = t9.stage};
+    }
+    if ((t10 - at) < 2u) {
+        return (struct object_runner__Action){.kind = 3u, .area = 0u, .offset = 0u, .size = 0u, .source = 0u, .from = 0u,
+                .at = t9.at, .headed = t9.headed, .stage = t9.stage};
+    }
+    return object_runner__record_action(batch, landing == 0u, groups, homes, next, t9);
+}
+
 struct kagutin_reply kagutin_abort(const uint8_t *log, size_t log_size, const uint8_t *area, size_t area_size, uint8_t *state,
         size_t state_size, uint64_t writer)
 {
-    ASK_BUFFERS(kagutin_reply, {log, log_size}, {area, area_size}, {state, state_size})
+    ASK_BUFFERS(kagutin_reply, code, {log, log_size}, {area, area_size}, {state, state_size})
     struct call_ask__Reply r = kagutin__kagutin_abort((struct slice_u8){log, log_size}, (struct slice_u8){area, area_size},
             (struct slice_mut_u8){state, state_size}, writer);
 
@@ -5476,7 +5734,7 @@ struct kagutin_reply kagutin_abort(const uint8_t *log, size_t log_size, const ui
 struct kagutin_reply kagutin_begin(const uint8_t *log, size_t log_size, const uint8_t *area, size_t area_size, uint8_t *state,
         size_t state_size, uint64_t writer)
 {
-    ASK_BUFFERS(kagutin_reply, {log, log_size}, {area, area_size}, {state, state_size})
+    ASK_BUFFERS(kagutin_reply, code, {log, log_size}, {area, area_size}, {state, state_size})
     struct call_ask__Reply r = kagutin__kagutin_begin((struct slice_u8){log, log_size}, (struct slice_u8){area, area_size},
             (struct slice_mut_u8){state, state_size}, writer);
 
@@ -5486,7 +5744,7 @@ struct kagutin_reply kagutin_begin(const uint8_t *log, size_t log_size, const ui
 struct kagutin_reply kagutin_begin_round(const uint8_t *log, size_t log_size, const uint8_t *area, size_t area_size,
         uint8_t *state, size_t state_size)
 {
-    ASK_BUFFERS(kagutin_reply, {log, log_size}, {area, area_size}, {state, state_size})
+    ASK_BUFFERS(kagutin_reply, code, {log, log_size}, {area, area_size}, {state, state_size})
     struct call_ask__Reply r = kagutin__kagutin_begin_round((struct slice_u8){log, log_size}, (struct slice_u8){area, area_size},
             (struct slice_mut_u8){state, state_size});
 
@@ -5496,7 +5754,7 @@ struct kagutin_reply kagutin_begin_round(const uint8_t *log, size_t log_size, co
 struct kagutin_reply kagutin_commit(uint8_t *log, size_t log_size, const uint8_t *area, size_t area_size, uint8_t *state,
         size_t state_size, uint8_t *newest, size_t newest_size, uint8_t *batch, size_t batch_size, uint64_t writer)
 {
-    ASK_BUFFERS(kagutin_reply, {log, log_size}, {area, area_size}, {state, state_size}, {newest, newest_size}, {batch,
+    ASK_BUFFERS(kagutin_reply, code, {log, log_size}, {area, area_size}, {state, state_size}, {newest, newest_size}, {batch,
             batch_size})
     struct call_ask__Reply r = kagutin__kagutin_commit((struct slice_mut_u8){log, log_size}, (struct slice_u8){area, area_size},
             (struct slice_mut_u8){state, state_size}, (struct slice_mut_u8){newest, newest_size}, (struct slice_mut_u8){batch,
@@ -5508,7 +5766,7 @@ struct kagutin_reply kagutin_commit(uint8_t *log, size_t log_size, const uint8_t
 struct kagutin_reply kagutin_confirm(const uint8_t *log, size_t log_size, const uint8_t *area, size_t area_size, uint8_t *state,
         size_t state_size)
 {
-    ASK_BUFFERS(kagutin_reply, {log, log_size}, {area, area_size}, {state, state_size})
+    ASK_BUFFERS(kagutin_reply, code, {log, log_size}, {area, area_size}, {state, state_size})
     struct call_ask__Reply r = kagutin__kagutin_confirm((struct slice_u8){log, log_size}, (struct slice_u8){area, area_size},
             (struct slice_mut_u8){state, state_size});
 
@@ -5519,7 +5777,7 @@ struct kagutin_reply kagutin_fetch(const uint8_t *log, size_t log_size, const ui
         const uint8_t *state, size_t state_size, const uint8_t *newest, size_t newest_size, uint8_t *blocks, size_t blocks_size,
         uint64_t writer, uint64_t home)
 {
-    ASK_BUFFERS(kagutin_reply, {log, log_size}, {area, area_size}, {state, state_size}, {newest, newest_size}, {blocks,
+    ASK_BUFFERS(kagutin_reply, code, {log, log_size}, {area, area_size}, {state, state_size}, {newest, newest_size}, {blocks,
             blocks_size})
     struct call_ask__Reply r = kagutin__kagutin_fetch((struct slice_u8){log, log_size}, (struct slice_u8){area, area_size},
             (struct slice_u8){state, state_size}, (struct slice_u8){newest, newest_size}, (struct slice_mut_u8){blocks,
@@ -5531,7 +5789,7 @@ struct kagutin_reply kagutin_fetch(const uint8_t *log, size_t log_size, const ui
 struct kagutin_reply kagutin_flush(const uint8_t *log, size_t log_size, const uint8_t *area, size_t area_size, uint8_t *state,
         size_t state_size, uint8_t *batch, size_t batch_size)
 {
-    ASK_BUFFERS(kagutin_reply, {log, log_size}, {area, area_size}, {state, state_size}, {batch, batch_size})
+    ASK_BUFFERS(kagutin_reply, code, {log, log_size}, {area, area_size}, {state, state_size}, {batch, batch_size})
     struct call_ask__Reply r = kagutin__kagutin_flush((struct slice_u8){log, log_size}, (struct slice_u8){area, area_size},
             (struct slice_mut_u8){state, state_size}, (struct slice_mut_u8){batch, batch_size});
 
@@ -5541,7 +5799,7 @@ struct kagutin_reply kagutin_flush(const uint8_t *log, size_t log_size, const ui
 struct kagutin_reply kagutin_format(uint8_t *log, size_t log_size, uint8_t *area, size_t area_size, uint8_t *batch,
         size_t batch_size)
 {
-    ASK_BUFFERS(kagutin_reply, {log, log_size}, {area, area_size}, {batch, batch_size})
+    ASK_BUFFERS(kagutin_reply, code, {log, log_size}, {area, area_size}, {batch, batch_size})
     struct call_ask__Reply r = kagutin__kagutin_format((struct slice_mut_u8){log, log_size}, (struct slice_mut_u8){area,
             area_size}, (struct slice_mut_u8){batch, batch_size});
 
@@ -5551,7 +5809,7 @@ struct kagutin_reply kagutin_format(uint8_t *log, size_t log_size, uint8_t *area
 struct kagutin_reply kagutin_open(uint8_t *log, size_t log_size, uint8_t *area, size_t area_size, uint8_t *state,
         size_t state_size, uint8_t *newest, size_t newest_size, uint8_t *batch, size_t batch_size)
 {
-    ASK_BUFFERS(kagutin_reply, {log, log_size}, {area, area_size}, {state, state_size}, {newest, newest_size}, {batch,
+    ASK_BUFFERS(kagutin_reply, code, {log, log_size}, {area, area_size}, {state, state_size}, {newest, newest_size}, {batch,
             batch_size})
     struct call_ask__Reply r = kagutin__kagutin_open((struct slice_mut_u8){log, log_size}, (struct slice_mut_u8){area, area_size},
             (struct slice_mut_u8){state, state_size}, (struct slice_mut_u8){newest, newest_size}, (struct slice_mut_u8){batch,
@@ -5564,7 +5822,7 @@ struct kagutin_reply kagutin_read(const uint8_t *log, size_t log_size, const uin
         const uint8_t *state, size_t state_size, const uint8_t *newest, size_t newest_size, uint8_t *block, size_t block_size,
         uint64_t writer, uint64_t home)
 {
-    ASK_BUFFERS(kagutin_reply, {log, log_size}, {area, area_size}, {state, state_size}, {newest, newest_size}, {block,
+    ASK_BUFFERS(kagutin_reply, code, {log, log_size}, {area, area_size}, {state, state_size}, {newest, newest_size}, {block,
             block_size})
     struct call_ask__Reply r = kagutin__kagutin_read((struct slice_u8){log, log_size}, (struct slice_u8){area, area_size},
             (struct slice_u8){state, state_size}, (struct slice_u8){newest, newest_size}, (struct slice_mut_u8){block,
@@ -5576,7 +5834,7 @@ struct kagutin_reply kagutin_read(const uint8_t *log, size_t log_size, const uin
 struct kagutin_reply kagutin_reserve(const uint8_t *log, size_t log_size, const uint8_t *area, size_t area_size, uint8_t *state,
         size_t state_size, uint64_t writer, uint64_t n)
 {
-    ASK_BUFFERS(kagutin_reply, {log, log_size}, {area, area_size}, {state, state_size})
+    ASK_BUFFERS(kagutin_reply, code, {log, log_size}, {area, area_size}, {state, state_size})
     struct call_ask__Reply r = kagutin__kagutin_reserve((struct slice_u8){log, log_size}, (struct slice_u8){area, area_size},
             (struct slice_mut_u8){state, state_size}, writer, n);
 
@@ -5587,7 +5845,7 @@ struct kagutin_reply kagutin_revise(const uint8_t *log, size_t log_size, const u
         const uint8_t *state, size_t state_size, const uint8_t *newest, size_t newest_size, uint8_t *blocks, size_t blocks_size,
         uint64_t writer, uint64_t home)
 {
-    ASK_BUFFERS(kagutin_reply, {log, log_size}, {area, area_size}, {state, state_size}, {newest, newest_size}, {blocks,
+    ASK_BUFFERS(kagutin_reply, code, {log, log_size}, {area, area_size}, {state, state_size}, {newest, newest_size}, {blocks,
             blocks_size})
     struct call_ask__Reply r = kagutin__kagutin_revise((struct slice_u8){log, log_size}, (struct slice_u8){area, area_size},
             (struct slice_u8){state, state_size}, (struct slice_u8){newest, newest_size}, (struct slice_mut_u8){blocks,
@@ -5599,7 +5857,7 @@ struct kagutin_reply kagutin_revise(const uint8_t *log, size_t log_size, const u
 struct kagutin_reply kagutin_settle(const uint8_t *log, size_t log_size, uint8_t *area, size_t area_size, uint8_t *state,
         size_t state_size, uint8_t *batch, size_t batch_size)
 {
-    ASK_BUFFERS(kagutin_reply, {log, log_size}, {area, area_size}, {state, state_size}, {batch, batch_size})
+    ASK_BUFFERS(kagutin_reply, code, {log, log_size}, {area, area_size}, {state, state_size}, {batch, batch_size})
     struct call_ask__Reply r = kagutin__kagutin_settle((struct slice_u8){log, log_size}, (struct slice_mut_u8){area, area_size},
             (struct slice_mut_u8){state, state_size}, (struct slice_mut_u8){batch, batch_size});
 
@@ -5609,7 +5867,7 @@ struct kagutin_reply kagutin_settle(const uint8_t *log, size_t log_size, uint8_t
 struct kagutin_reply kagutin_step_round(const uint8_t *log, size_t log_size, uint8_t *area, size_t area_size, uint8_t *state,
         size_t state_size, uint8_t *batch, size_t batch_size, uint64_t homes)
 {
-    ASK_BUFFERS(kagutin_reply, {log, log_size}, {area, area_size}, {state, state_size}, {batch, batch_size})
+    ASK_BUFFERS(kagutin_reply, code, {log, log_size}, {area, area_size}, {state, state_size}, {batch, batch_size})
     struct call_ask__Reply r = kagutin__kagutin_step_round((struct slice_u8){log, log_size}, (struct slice_mut_u8){area,
             area_size}, (struct slice_mut_u8){state, state_size}, (struct slice_mut_u8){batch, batch_size}, homes);
 
@@ -5620,7 +5878,8 @@ struct kagutin_reply kagutin_store(uint8_t *log, size_t log_size, const uint8_t 
         size_t state_size, const uint8_t *block, size_t block_size, uint8_t *batch, size_t batch_size, uint64_t writer,
         uint64_t home)
 {
-    ASK_BUFFERS(kagutin_reply, {log, log_size}, {area, area_size}, {state, state_size}, {block, block_size}, {batch, batch_size})
+    ASK_BUFFERS(kagutin_reply, code, {log, log_size}, {area, area_size}, {state, state_size}, {block, block_size}, {batch,
+            batch_size})
     struct call_ask__Reply r = kagutin__kagutin_store((struct slice_mut_u8){log, log_size}, (struct slice_u8){area, area_size},
             (struct slice_mut_u8){state, state_size}, (struct slice_u8){block, block_size}, (struct slice_mut_u8){batch,
             batch_size}, writer, home);
@@ -5632,7 +5891,7 @@ struct kagutin_reply kagutin_transact(uint8_t *log, size_t log_size, const uint8
         size_t state_size, uint8_t *newest, size_t newest_size, const uint8_t *blocks, size_t blocks_size, uint8_t *batch,
         size_t batch_size, uint64_t writer, uint64_t home)
 {
-    ASK_BUFFERS(kagutin_reply, {log, log_size}, {area, area_size}, {state, state_size}, {newest, newest_size}, {blocks,
+    ASK_BUFFERS(kagutin_reply, code, {log, log_size}, {area, area_size}, {state, state_size}, {newest, newest_size}, {blocks,
             blocks_size}, {batch, batch_size})
     struct call_ask__Reply r = kagutin__kagutin_transact((struct slice_mut_u8){log, log_size}, (struct slice_u8){area, area_size},
             (struct slice_mut_u8){state, state_size}, (struct slice_mut_u8){newest, newest_size}, (struct slice_u8){blocks,
@@ -5644,7 +5903,7 @@ struct kagutin_reply kagutin_transact(uint8_t *log, size_t log_size, const uint8
 struct kagutin_reply kagutin_trim(uint8_t *log, size_t log_size, const uint8_t *area, size_t area_size, uint8_t *state,
         size_t state_size, uint8_t *newest, size_t newest_size, uint8_t *batch, size_t batch_size)
 {
-    ASK_BUFFERS(kagutin_reply, {log, log_size}, {area, area_size}, {state, state_size}, {newest, newest_size}, {batch,
+    ASK_BUFFERS(kagutin_reply, code, {log, log_size}, {area, area_size}, {state, state_size}, {newest, newest_size}, {batch,
             batch_size})
     struct call_ask__Reply r = kagutin__kagutin_trim((struct slice_mut_u8){log, log_size}, (struct slice_u8){area, area_size},
             (struct slice_mut_u8){state, state_size}, (struct slice_mut_u8){newest, newest_size}, (struct slice_mut_u8){batch,
@@ -5656,10 +5915,21 @@ struct kagutin_reply kagutin_trim(uint8_t *log, size_t log_size, const uint8_t *
 struct kagutin_places kagutin_usage(const uint8_t *log, size_t log_size, const uint8_t *area, size_t area_size,
         const uint8_t *state, size_t state_size)
 {
-    ASK_BUFFERS(kagutin_places, {log, log_size}, {area, area_size}, {state, state_size})
+    ASK_BUFFERS(kagutin_places, code, {log, log_size}, {area, area_size}, {state, state_size})
     struct model__Usage r = kagutin__kagutin_usage((struct slice_u8){log, log_size}, (struct slice_u8){area, area_size},
             (struct slice_u8){state, state_size});
 
     return (struct kagutin_places){.code = r.code, .live = r.live, .dead = r.dead, .free = r.free, .promised = r.promised,
             .holder = r.holder, .first = r.first};
+}
+
+struct kagutin_action kagutin_next_action(const uint8_t *batch, size_t batch_size, uint64_t landing, uint64_t groups,
+        uint64_t homes, uint64_t next, uint64_t at, uint64_t headed, uint64_t stage)
+{
+    ASK_BUFFERS(kagutin_action, kind, {batch, batch_size})
+    struct object_runner__Action r = object_runner__kagutin_next_action((struct slice_u8){batch, batch_size}, landing, groups,
+            homes, next, at, headed, stage);
+
+    return (struct kagutin_action){.kind = r.kind, .area = r.area, .offset = r.offset, .size = r.size, .source = r.source,
+            .from = r.from, .at = r.at, .headed = r.headed, .stage = r.stage};
 }

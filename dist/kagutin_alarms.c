@@ -102,14 +102,14 @@ static bool are_apart(const struct lent *lent, size_t count)
     return true;
 }
 
-#define ASK_BUFFERS(result, ...) \
+#define ASK_BUFFERS(result, answer, ...) \
     do { \
         const struct lent all_lent[] = {__VA_ARGS__}; \
         if (!are_apart(all_lent, sizeof all_lent / sizeof all_lent[0])) \
-            return (struct result){.code = 63u}; \
+            return (struct result){.answer = 63u}; \
     } while (0);
 #else
-#define ASK_BUFFERS(result, ...)
+#define ASK_BUFFERS(result, answer, ...)
 #endif
 
 /* The number that 2 bytes make, lowest byte first. */
@@ -541,7 +541,7 @@ struct kagutin_reply kagutin_alarm_arrive(uint8_t *log, size_t log_size, const u
         size_t state_size, uint8_t *newest, size_t newest_size, uint8_t *batch, size_t batch_size, uint64_t writer,
         uint16_t identity, uint64_t class, uint32_t second)
 {
-    ASK_BUFFERS(kagutin_reply, {log, log_size}, {area, area_size}, {state, state_size}, {newest, newest_size}, {batch,
+    ASK_BUFFERS(kagutin_reply, code, {log, log_size}, {area, area_size}, {state, state_size}, {newest, newest_size}, {batch,
             batch_size})
     struct call_ask__Reply r = unit_alarms__kagutin_alarm_arrive((struct slice_mut_u8){log, log_size}, (struct slice_u8){area,
             area_size}, (struct slice_mut_u8){state, state_size}, (struct slice_mut_u8){newest, newest_size},
@@ -554,7 +554,7 @@ struct kagutin_reply kagutin_alarm_clear(uint8_t *log, size_t log_size, const ui
         size_t state_size, uint8_t *newest, size_t newest_size, uint8_t *batch, size_t batch_size, uint64_t writer,
         uint16_t identity)
 {
-    ASK_BUFFERS(kagutin_reply, {log, log_size}, {area, area_size}, {state, state_size}, {newest, newest_size}, {batch,
+    ASK_BUFFERS(kagutin_reply, code, {log, log_size}, {area, area_size}, {state, state_size}, {newest, newest_size}, {batch,
             batch_size})
     struct call_ask__Reply r = unit_alarms__kagutin_alarm_clear((struct slice_mut_u8){log, log_size}, (struct slice_u8){area,
             area_size}, (struct slice_mut_u8){state, state_size}, (struct slice_mut_u8){newest, newest_size},
@@ -566,7 +566,7 @@ struct kagutin_reply kagutin_alarm_clear(uint8_t *log, size_t log_size, const ui
 struct kagutin_alarm kagutin_alarm_gravest(const uint8_t *log, size_t log_size, const uint8_t *area, size_t area_size,
         const uint8_t *state, size_t state_size, const uint8_t *newest, size_t newest_size, uint64_t writer)
 {
-    ASK_BUFFERS(kagutin_alarm, {log, log_size}, {area, area_size}, {state, state_size}, {newest, newest_size})
+    ASK_BUFFERS(kagutin_alarm, code, {log, log_size}, {area, area_size}, {state, state_size}, {newest, newest_size})
     struct unit_alarms__Gravest r = unit_alarms__kagutin_alarm_gravest((struct slice_u8){log, log_size}, (struct slice_u8){area,
             area_size}, (struct slice_u8){state, state_size}, (struct slice_u8){newest, newest_size}, writer);
 

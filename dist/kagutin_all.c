@@ -213,6 +213,24 @@ struct model__Usage {
     uint64_t first;
 };
 
+struct object_runner__Action {
+    uint64_t kind;
+    uint64_t area;
+    uint64_t offset;
+    uint64_t size;
+    uint64_t source;
+    uint64_t from;
+    uint64_t at;
+    uint64_t headed;
+    uint64_t stage;
+};
+
+struct object_runner__Cursor {
+    uint64_t at;
+    uint64_t headed;
+    uint64_t stage;
+};
+
 #if defined(__GNUC__) && !defined(KAGUTIN_PLAIN_C)
 #define QUICK_C 1
 #else
@@ -265,14 +283,14 @@ static bool core_are_apart(const struct core_lent *core_lent, size_t count)
     return true;
 }
 
-#define ASK_BUFFERS(result, ...) \
+#define ASK_BUFFERS(result, answer, ...) \
     do { \
         const struct core_lent all_lent[] = {__VA_ARGS__}; \
         if (!core_are_apart(all_lent, sizeof all_lent / sizeof all_lent[0])) \
-            return (struct result){.code = 63u}; \
+            return (struct result){.answer = 63u}; \
     } while (0);
 #else
-#define ASK_BUFFERS(result, ...)
+#define ASK_BUFFERS(result, answer, ...)
 #endif
 
 /* The number that 2 bytes make, lowest byte first. */
@@ -5484,10 +5502,250 @@ static inline struct model__Usage kagutin__kagutin_usage(struct core_slice_u8 lo
     return call_usage__usage(log, area, state);
 }
 
+/* Whether the two bytes of `mark` stand at index `at`. */
+static inline bool object_runner__has_mark(struct core_slice_u8 s, uint64_t at, struct core_slice_u8 mark)
+{
+    if (s.ptr[(size_t)at] != mark.ptr[0u]) {
+        return false;
+    }
+    if (s.ptr[(size_t)(at + 1u)] != mark.ptr[1u]) {
+        return false;
+    }
+    return true;
+}
+
+/* Whether a group goes out without its first word: on words, unless that is zeros. */
+static inline bool object_runner__records__parts(struct core_slice_u8 batch, bool words, uint64_t at)
+{
+    bool t5;
+
+    if (words) {
+        t5 = base_codec__blocks__all_zero(batch, at + 4u, 8u);
+        return !t5;
+    }
+    return false;
+}
+
+/* A group; on words without its first word, unless that is zeros. */
+static inline struct object_runner__Action object_runner__records__group_action(struct core_slice_u8 batch, bool words,
+        uint64_t groups, struct object_runner__Cursor c)
+{
+    uint64_t t5, t6, t7, t8;
+    struct object_runner__Cursor t9;
+    bool t14;
+
+    t5 = c.at;
+    if (((uint64_t)batch.len - t5) < 516u) {
+        return (struct object_runner__Action){.kind = 3u, .area = 0u, .offset = 0u, .size = 0u, .source = 0u, .from = 0u,
+                .at = c.at, .headed = c.headed, .stage = c.stage};
+    }
+    t6 = core_load_2(batch.ptr + (size_t)(t5 + 2u));
+    if (groups <= t6) {
+        return (struct object_runner__Action){.kind = 3u, .area = 0u, .offset = 0u, .size = 0u, .source = 0u, .from = 0u,
+                .at = c.at, .headed = c.headed, .stage = c.stage};
+    }
+    t7 = 64u + (512u * t6);
+    t8 = c.at + 4u;
+    t9 = (struct object_runner__Cursor){.at = c.at + 516u, .headed = c.headed, .stage = 0u};
+    t14 = object_runner__records__parts(batch, words, t5);
+    if (t14) {
+        return (struct object_runner__Action){.kind = 1u, .area = 0u, .offset = t7 + 8u, .size = 504u, .source = 0u, .from = t8
+                + 8u, .at = t9.at, .headed = t9.headed, .stage = t9.stage};
+    }
+    return (struct object_runner__Action){.kind = 1u, .area = 0u, .offset = t7, .size = 512u, .source = 0u, .from = t8,
+            .at = t9.at, .headed = t9.headed, .stage = t9.stage};
+}
+
+/* A home. */
+static inline struct object_runner__Action object_runner__records__home_action(struct core_slice_u8 batch, uint64_t homes,
+        struct object_runner__Cursor c)
+{
+    uint64_t t4, t5;
+    struct object_runner__Cursor t120;
+
+    t4 = c.at;
+    if (((uint64_t)batch.len - t4) < 68u) {
+        return (struct object_runner__Action){.kind = 3u, .area = 0u, .offset = 0u, .size = 0u, .source = 0u, .from = 0u,
+                .at = c.at, .headed = c.headed, .stage = c.stage};
+    }
+    t5 = core_load_2(batch.ptr + (size_t)(t4 + 2u));
+    if (homes <= t5) {
+        return (struct object_runner__Action){.kind = 3u, .area = 0u, .offset = 0u, .size = 0u, .source = 0u, .from = 0u,
+                .at = c.at, .headed = c.headed, .stage = c.stage};
+    }
+    t120 = (struct object_runner__Cursor){.at = c.at + 68u, .headed = c.headed, .stage = 0u};
+    return (struct object_runner__Action){.kind = 1u, .area = 1u, .offset = 64u * t5, .size = 64u, .source = 0u, .from = c.at
+            + 4u, .at = t120.at, .headed = t120.headed, .stage = t120.stage};
+}
+
+/* Whether a header's first word goes out before the rest: on words, if it is zeros. */
+static inline bool object_runner__records__wiping(struct core_slice_u8 batch, bool words, uint64_t at)
+{
+    if (words) {
+        return base_codec__blocks__all_zero(batch, at + 2u, 8u);
+    }
+    return false;
+}
+
+/* A header without a mark: its first word, a fence, and then all of it. */
+static inline struct object_runner__Action object_runner__records__wipe_action(struct object_runner__Cursor c)
+{
+    struct object_runner__Cursor t8, t10, t16;
+
+    if (c.stage == 0u) {
+        t8 = (struct object_runner__Cursor){.at = c.at, .headed = c.headed, .stage = 1u};
+        return (struct object_runner__Action){.kind = 1u, .area = 0u, .offset = 0u, .size = 8u, .source = 0u, .from = c.at + 2u,
+                .at = t8.at, .headed = t8.headed, .stage = t8.stage};
+    }
+    if (c.stage == 1u) {
+        t10 = (struct object_runner__Cursor){.at = c.at, .headed = c.headed, .stage = 2u};
+        return (struct object_runner__Action){.kind = 2u, .area = 0u, .offset = 0u, .size = 0u, .source = 0u, .from = 0u,
+                .at = t10.at, .headed = t10.headed, .stage = t10.stage};
+    }
+    t16 = (struct object_runner__Cursor){.at = c.at + 66u, .headed = c.headed, .stage = 0u};
+    return (struct object_runner__Action){.kind = 1u, .area = 0u, .offset = 0u, .size = 64u, .source = 0u, .from = c.at + 2u,
+            .at = t16.at, .headed = t16.headed, .stage = t16.stage};
+}
+
+/* A header. */
+static inline struct object_runner__Action object_runner__records__header_action(struct core_slice_u8 batch, bool words,
+        struct object_runner__Cursor c)
+{
+    uint64_t t4;
+    bool t8;
+    struct object_runner__Cursor t15;
+
+    t4 = c.at;
+    if (((uint64_t)batch.len - t4) < 66u) {
+        return (struct object_runner__Action){.kind = 3u, .area = 0u, .offset = 0u, .size = 0u, .source = 0u, .from = 0u,
+                .at = c.at, .headed = c.headed, .stage = c.stage};
+    }
+    t8 = object_runner__records__wiping(batch, words, t4);
+    if (t8) {
+        return object_runner__records__wipe_action(c);
+    }
+    t15 = (struct object_runner__Cursor){.at = c.at + 66u, .headed = c.headed, .stage = 0u};
+    return (struct object_runner__Action){.kind = 1u, .area = 0u, .offset = 0u, .size = 64u, .source = 0u, .from = c.at + 2u,
+            .at = t15.at, .headed = t15.headed, .stage = t15.stage};
+}
+
+/* Whether first words are due: on words, those of the groups from `headed` to below the next one. */
+static inline bool object_runner__records__due(bool words, uint64_t headed, uint64_t next)
+{
+    if (words) {
+        return headed < next;
+    }
+    return false;
+}
+
+/* First words are due: a fence, and then each, from the log copy. */
+static inline struct object_runner__Action object_runner__records__due_action(uint64_t groups, struct object_runner__Cursor c)
+{
+    uint64_t t4;
+    struct object_runner__Cursor t10, t12;
+
+    if (c.stage == 0u) {
+        t10 = (struct object_runner__Cursor){.at = c.at, .headed = c.headed, .stage = 1u};
+        return (struct object_runner__Action){.kind = 2u, .area = 0u, .offset = 0u, .size = 0u, .source = 0u, .from = 0u,
+                .at = t10.at, .headed = t10.headed, .stage = t10.stage};
+    }
+    t4 = 64u + (512u * (c.headed % groups));
+    t12 = (struct object_runner__Cursor){.at = c.at, .headed = c.headed + 1u, .stage = 1u};
+    return (struct object_runner__Action){.kind = 1u, .area = 0u, .offset = t4, .size = 8u, .source = 1u, .from = t4,
+            .at = t12.at, .headed = t12.headed, .stage = t12.stage};
+}
+
+/* A fence; where first words are due these come first. */
+static inline struct object_runner__Action object_runner__records__fence_action(bool words, uint64_t groups, uint64_t next,
+        struct object_runner__Cursor c)
+{
+    bool t6;
+    struct object_runner__Cursor t9;
+
+    t6 = object_runner__records__due(words, c.headed, next);
+    if (t6) {
+        return object_runner__records__due_action(groups, c);
+    }
+    t9 = (struct object_runner__Cursor){.at = c.at + 2u, .headed = c.headed, .stage = 0u};
+    return (struct object_runner__Action){.kind = 2u, .area = 0u, .offset = 0u, .size = 0u, .source = 0u, .from = 0u, .at = t9.at,
+            .headed = t9.headed, .stage = t9.stage};
+}
+
+/* The action for the record at the cursor, by its mark. */
+static inline struct object_runner__Action object_runner__record_action(struct core_slice_u8 batch, bool words, uint64_t groups,
+        uint64_t homes, uint64_t next, struct object_runner__Cursor c)
+{
+    uint64_t t7;
+    struct array_u8_2 t8, t9, t10, t11;
+    bool t12, t15, t18, t21;
+
+    t8 = (struct array_u8_2){{71u, 87u}};
+    t9 = (struct array_u8_2){{72u, 87u}};
+    t10 = (struct array_u8_2){{75u, 87u}};
+    t11 = (struct array_u8_2){{70u, 78u}};
+    t7 = c.at;
+    t12 = object_runner__has_mark(batch, t7, (struct core_slice_u8){t8.at, 2u});
+    if (t12) {
+        return object_runner__records__group_action(batch, words, groups, c);
+    }
+    t15 = object_runner__has_mark(batch, t7, (struct core_slice_u8){t9.at, 2u});
+    if (t15) {
+        return object_runner__records__home_action(batch, homes, c);
+    }
+    t18 = object_runner__has_mark(batch, t7, (struct core_slice_u8){t10.at, 2u});
+    if (t18) {
+        return object_runner__records__header_action(batch, words, c);
+    }
+    t21 = object_runner__has_mark(batch, t7, (struct core_slice_u8){t11.at, 2u});
+    if (t21) {
+        return object_runner__records__fence_action(words, groups, next, c);
+    }
+    return (struct object_runner__Action){.kind = 3u, .area = 0u, .offset = 0u, .size = 0u, .source = 0u, .from = 0u, .at = c.at,
+            .headed = c.headed, .stage = c.stage};
+}
+
+/* The next action of a batch. `landing` is what the medium keeps whole (0 words of 8 bytes, 1 blocks of 64), `next` the number of
+   the next group that has not been submitted. Whatever is asked: a batch that is none, or a cursor beyond it, is refused. [S-85]
+   */
+static inline struct object_runner__Action object_runner__kagutin_next_action(struct core_slice_u8 batch, uint64_t landing,
+        uint64_t groups, uint64_t homes, uint64_t next, uint64_t at, uint64_t headed, uint64_t stage)
+{
+    struct object_runner__Cursor t9;
+    uint64_t t10;
+
+    t9 = (struct object_runner__Cursor){.at = at, .headed = headed, .stage = stage};
+    if (1u < landing) {
+        return (struct object_runner__Action){.kind = 3u, .area = 0u, .offset = 0u, .size = 0u, .source = 0u, .from = 0u,
+                .at = t9.at, .headed = t9.headed, .stage = t9.stage};
+    }
+    if (groups < 1u) {
+        return (struct object_runner__Action){.kind = 3u, .area = 0u, .offset = 0u, .size = 0u, .source = 0u, .from = 0u,
+                .at = t9.at, .headed = t9.headed, .stage = t9.stage};
+    }
+    if (1024u < groups) {
+        return (struct object_runner__Action){.kind = 3u, .area = 0u, .offset = 0u, .size = 0u, .source = 0u, .from = 0u,
+                .at = t9.at, .headed = t9.headed, .stage = t9.stage};
+    }
+    t10 = (uint64_t)batch.len;
+    if (t10 < at) {
+        return (struct object_runner__Action){.kind = 3u, .area = 0u, .offset = 0u, .size = 0u, .source = 0u, .from = 0u,
+                .at = t9.at, .headed = t9.headed, .stage = t9.stage};
+    }
+    if (at == t10) {
+        return (struct object_runner__Action){.kind = 0u, .area = 0u, .offset = 0u, .size = 0u, .source = 0u, .from = 0u,
+                .at = t9.at, .headed = t9.headed, .stage = t9.stage};
+    }
+    if ((t10 - at) < 2u) {
+        return (struct object_runner__Action){.kind = 3u, .area = 0u, .offset = 0u, .size = 0u, .source = 0u, .from = 0u,
+                .at = t9.at, .headed = t9.headed, .stage = t9.stage};
+    }
+    return object_runner__record_action(batch, landing == 0u, groups, homes, next, t9);
+}
+
 struct kagutin_reply kagutin_abort(const uint8_t *log, size_t log_size, const uint8_t *area, size_t area_size, uint8_t *state,
         size_t state_size, uint64_t writer)
 {
-    ASK_BUFFERS(kagutin_reply, {log, log_size}, {area, area_size}, {state, state_size})
+    ASK_BUFFERS(kagutin_reply, code, {log, log_size}, {area, area_size}, {state, state_size})
     struct core_call_ask__Reply r = kagutin__kagutin_abort((struct core_slice_u8){log, log_size}, (struct core_slice_u8){area, area_size},
             (struct core_slice_mut_u8){state, state_size}, writer);
 
@@ -5497,7 +5755,7 @@ struct kagutin_reply kagutin_abort(const uint8_t *log, size_t log_size, const ui
 struct kagutin_reply kagutin_begin(const uint8_t *log, size_t log_size, const uint8_t *area, size_t area_size, uint8_t *state,
         size_t state_size, uint64_t writer)
 {
-    ASK_BUFFERS(kagutin_reply, {log, log_size}, {area, area_size}, {state, state_size})
+    ASK_BUFFERS(kagutin_reply, code, {log, log_size}, {area, area_size}, {state, state_size})
     struct core_call_ask__Reply r = kagutin__kagutin_begin((struct core_slice_u8){log, log_size}, (struct core_slice_u8){area, area_size},
             (struct core_slice_mut_u8){state, state_size}, writer);
 
@@ -5507,7 +5765,7 @@ struct kagutin_reply kagutin_begin(const uint8_t *log, size_t log_size, const ui
 struct kagutin_reply kagutin_begin_round(const uint8_t *log, size_t log_size, const uint8_t *area, size_t area_size,
         uint8_t *state, size_t state_size)
 {
-    ASK_BUFFERS(kagutin_reply, {log, log_size}, {area, area_size}, {state, state_size})
+    ASK_BUFFERS(kagutin_reply, code, {log, log_size}, {area, area_size}, {state, state_size})
     struct core_call_ask__Reply r = kagutin__kagutin_begin_round((struct core_slice_u8){log, log_size}, (struct core_slice_u8){area, area_size},
             (struct core_slice_mut_u8){state, state_size});
 
@@ -5517,7 +5775,7 @@ struct kagutin_reply kagutin_begin_round(const uint8_t *log, size_t log_size, co
 struct kagutin_reply kagutin_commit(uint8_t *log, size_t log_size, const uint8_t *area, size_t area_size, uint8_t *state,
         size_t state_size, uint8_t *newest, size_t newest_size, uint8_t *batch, size_t batch_size, uint64_t writer)
 {
-    ASK_BUFFERS(kagutin_reply, {log, log_size}, {area, area_size}, {state, state_size}, {newest, newest_size}, {batch,
+    ASK_BUFFERS(kagutin_reply, code, {log, log_size}, {area, area_size}, {state, state_size}, {newest, newest_size}, {batch,
             batch_size})
     struct core_call_ask__Reply r = kagutin__kagutin_commit((struct core_slice_mut_u8){log, log_size}, (struct core_slice_u8){area, area_size},
             (struct core_slice_mut_u8){state, state_size}, (struct core_slice_mut_u8){newest, newest_size}, (struct core_slice_mut_u8){batch,
@@ -5529,7 +5787,7 @@ struct kagutin_reply kagutin_commit(uint8_t *log, size_t log_size, const uint8_t
 struct kagutin_reply kagutin_confirm(const uint8_t *log, size_t log_size, const uint8_t *area, size_t area_size, uint8_t *state,
         size_t state_size)
 {
-    ASK_BUFFERS(kagutin_reply, {log, log_size}, {area, area_size}, {state, state_size})
+    ASK_BUFFERS(kagutin_reply, code, {log, log_size}, {area, area_size}, {state, state_size})
     struct core_call_ask__Reply r = kagutin__kagutin_confirm((struct core_slice_u8){log, log_size}, (struct core_slice_u8){area, area_size},
             (struct core_slice_mut_u8){state, state_size});
 
@@ -5540,7 +5798,7 @@ struct kagutin_reply kagutin_fetch(const uint8_t *log, size_t log_size, const ui
         const uint8_t *state, size_t state_size, const uint8_t *newest, size_t newest_size, uint8_t *blocks, size_t blocks_size,
         uint64_t writer, uint64_t home)
 {
-    ASK_BUFFERS(kagutin_reply, {log, log_size}, {area, area_size}, {state, state_size}, {newest, newest_size}, {blocks,
+    ASK_BUFFERS(kagutin_reply, code, {log, log_size}, {area, area_size}, {state, state_size}, {newest, newest_size}, {blocks,
             blocks_size})
     struct core_call_ask__Reply r = core_kagutin__kagutin_fetch((struct core_slice_u8){log, log_size}, (struct core_slice_u8){area, area_size},
             (struct core_slice_u8){state, state_size}, (struct core_slice_u8){newest, newest_size}, (struct core_slice_mut_u8){blocks,
@@ -5552,7 +5810,7 @@ struct kagutin_reply kagutin_fetch(const uint8_t *log, size_t log_size, const ui
 struct kagutin_reply kagutin_flush(const uint8_t *log, size_t log_size, const uint8_t *area, size_t area_size, uint8_t *state,
         size_t state_size, uint8_t *batch, size_t batch_size)
 {
-    ASK_BUFFERS(kagutin_reply, {log, log_size}, {area, area_size}, {state, state_size}, {batch, batch_size})
+    ASK_BUFFERS(kagutin_reply, code, {log, log_size}, {area, area_size}, {state, state_size}, {batch, batch_size})
     struct core_call_ask__Reply r = kagutin__kagutin_flush((struct core_slice_u8){log, log_size}, (struct core_slice_u8){area, area_size},
             (struct core_slice_mut_u8){state, state_size}, (struct core_slice_mut_u8){batch, batch_size});
 
@@ -5562,7 +5820,7 @@ struct kagutin_reply kagutin_flush(const uint8_t *log, size_t log_size, const ui
 struct kagutin_reply kagutin_format(uint8_t *log, size_t log_size, uint8_t *area, size_t area_size, uint8_t *batch,
         size_t batch_size)
 {
-    ASK_BUFFERS(kagutin_reply, {log, log_size}, {area, area_size}, {batch, batch_size})
+    ASK_BUFFERS(kagutin_reply, code, {log, log_size}, {area, area_size}, {batch, batch_size})
     struct core_call_ask__Reply r = kagutin__kagutin_format((struct core_slice_mut_u8){log, log_size}, (struct core_slice_mut_u8){area,
             area_size}, (struct core_slice_mut_u8){batch, batch_size});
 
@@ -5572,7 +5830,7 @@ struct kagutin_reply kagutin_format(uint8_t *log, size_t log_size, uint8_t *area
 struct kagutin_reply kagutin_open(uint8_t *log, size_t log_size, uint8_t *area, size_t area_size, uint8_t *state,
         size_t state_size, uint8_t *newest, size_t newest_size, uint8_t *batch, size_t batch_size)
 {
-    ASK_BUFFERS(kagutin_reply, {log, log_size}, {area, area_size}, {state, state_size}, {newest, newest_size}, {batch,
+    ASK_BUFFERS(kagutin_reply, code, {log, log_size}, {area, area_size}, {state, state_size}, {newest, newest_size}, {batch,
             batch_size})
     struct core_call_ask__Reply r = kagutin__kagutin_open((struct core_slice_mut_u8){log, log_size}, (struct core_slice_mut_u8){area, area_size},
             (struct core_slice_mut_u8){state, state_size}, (struct core_slice_mut_u8){newest, newest_size}, (struct core_slice_mut_u8){batch,
@@ -5585,7 +5843,7 @@ struct kagutin_reply kagutin_read(const uint8_t *log, size_t log_size, const uin
         const uint8_t *state, size_t state_size, const uint8_t *newest, size_t newest_size, uint8_t *block, size_t block_size,
         uint64_t writer, uint64_t home)
 {
-    ASK_BUFFERS(kagutin_reply, {log, log_size}, {area, area_size}, {state, state_size}, {newest, newest_size}, {block,
+    ASK_BUFFERS(kagutin_reply, code, {log, log_size}, {area, area_size}, {state, state_size}, {newest, newest_size}, {block,
             block_size})
     struct core_call_ask__Reply r = kagutin__kagutin_read((struct core_slice_u8){log, log_size}, (struct core_slice_u8){area, area_size},
             (struct core_slice_u8){state, state_size}, (struct core_slice_u8){newest, newest_size}, (struct core_slice_mut_u8){block,
@@ -5597,7 +5855,7 @@ struct kagutin_reply kagutin_read(const uint8_t *log, size_t log_size, const uin
 struct kagutin_reply kagutin_reserve(const uint8_t *log, size_t log_size, const uint8_t *area, size_t area_size, uint8_t *state,
         size_t state_size, uint64_t writer, uint64_t n)
 {
-    ASK_BUFFERS(kagutin_reply, {log, log_size}, {area, area_size}, {state, state_size})
+    ASK_BUFFERS(kagutin_reply, code, {log, log_size}, {area, area_size}, {state, state_size})
     struct core_call_ask__Reply r = kagutin__kagutin_reserve((struct core_slice_u8){log, log_size}, (struct core_slice_u8){area, area_size},
             (struct core_slice_mut_u8){state, state_size}, writer, n);
 
@@ -5608,7 +5866,7 @@ struct kagutin_reply kagutin_revise(const uint8_t *log, size_t log_size, const u
         const uint8_t *state, size_t state_size, const uint8_t *newest, size_t newest_size, uint8_t *blocks, size_t blocks_size,
         uint64_t writer, uint64_t home)
 {
-    ASK_BUFFERS(kagutin_reply, {log, log_size}, {area, area_size}, {state, state_size}, {newest, newest_size}, {blocks,
+    ASK_BUFFERS(kagutin_reply, code, {log, log_size}, {area, area_size}, {state, state_size}, {newest, newest_size}, {blocks,
             blocks_size})
     struct core_call_ask__Reply r = core_kagutin__kagutin_revise((struct core_slice_u8){log, log_size}, (struct core_slice_u8){area, area_size},
             (struct core_slice_u8){state, state_size}, (struct core_slice_u8){newest, newest_size}, (struct core_slice_mut_u8){blocks,
@@ -5620,7 +5878,7 @@ struct kagutin_reply kagutin_revise(const uint8_t *log, size_t log_size, const u
 struct kagutin_reply kagutin_settle(const uint8_t *log, size_t log_size, uint8_t *area, size_t area_size, uint8_t *state,
         size_t state_size, uint8_t *batch, size_t batch_size)
 {
-    ASK_BUFFERS(kagutin_reply, {log, log_size}, {area, area_size}, {state, state_size}, {batch, batch_size})
+    ASK_BUFFERS(kagutin_reply, code, {log, log_size}, {area, area_size}, {state, state_size}, {batch, batch_size})
     struct core_call_ask__Reply r = kagutin__kagutin_settle((struct core_slice_u8){log, log_size}, (struct core_slice_mut_u8){area, area_size},
             (struct core_slice_mut_u8){state, state_size}, (struct core_slice_mut_u8){batch, batch_size});
 
@@ -5630,7 +5888,7 @@ struct kagutin_reply kagutin_settle(const uint8_t *log, size_t log_size, uint8_t
 struct kagutin_reply kagutin_step_round(const uint8_t *log, size_t log_size, uint8_t *area, size_t area_size, uint8_t *state,
         size_t state_size, uint8_t *batch, size_t batch_size, uint64_t homes)
 {
-    ASK_BUFFERS(kagutin_reply, {log, log_size}, {area, area_size}, {state, state_size}, {batch, batch_size})
+    ASK_BUFFERS(kagutin_reply, code, {log, log_size}, {area, area_size}, {state, state_size}, {batch, batch_size})
     struct core_call_ask__Reply r = kagutin__kagutin_step_round((struct core_slice_u8){log, log_size}, (struct core_slice_mut_u8){area,
             area_size}, (struct core_slice_mut_u8){state, state_size}, (struct core_slice_mut_u8){batch, batch_size}, homes);
 
@@ -5641,7 +5899,8 @@ struct kagutin_reply kagutin_store(uint8_t *log, size_t log_size, const uint8_t 
         size_t state_size, const uint8_t *block, size_t block_size, uint8_t *batch, size_t batch_size, uint64_t writer,
         uint64_t home)
 {
-    ASK_BUFFERS(kagutin_reply, {log, log_size}, {area, area_size}, {state, state_size}, {block, block_size}, {batch, batch_size})
+    ASK_BUFFERS(kagutin_reply, code, {log, log_size}, {area, area_size}, {state, state_size}, {block, block_size}, {batch,
+            batch_size})
     struct core_call_ask__Reply r = kagutin__kagutin_store((struct core_slice_mut_u8){log, log_size}, (struct core_slice_u8){area, area_size},
             (struct core_slice_mut_u8){state, state_size}, (struct core_slice_u8){block, block_size}, (struct core_slice_mut_u8){batch,
             batch_size}, writer, home);
@@ -5653,7 +5912,7 @@ struct kagutin_reply kagutin_transact(uint8_t *log, size_t log_size, const uint8
         size_t state_size, uint8_t *newest, size_t newest_size, const uint8_t *blocks, size_t blocks_size, uint8_t *batch,
         size_t batch_size, uint64_t writer, uint64_t home)
 {
-    ASK_BUFFERS(kagutin_reply, {log, log_size}, {area, area_size}, {state, state_size}, {newest, newest_size}, {blocks,
+    ASK_BUFFERS(kagutin_reply, code, {log, log_size}, {area, area_size}, {state, state_size}, {newest, newest_size}, {blocks,
             blocks_size}, {batch, batch_size})
     struct core_call_ask__Reply r = core_kagutin__kagutin_transact((struct core_slice_mut_u8){log, log_size}, (struct core_slice_u8){area, area_size},
             (struct core_slice_mut_u8){state, state_size}, (struct core_slice_mut_u8){newest, newest_size}, (struct core_slice_u8){blocks,
@@ -5665,7 +5924,7 @@ struct kagutin_reply kagutin_transact(uint8_t *log, size_t log_size, const uint8
 struct kagutin_reply kagutin_trim(uint8_t *log, size_t log_size, const uint8_t *area, size_t area_size, uint8_t *state,
         size_t state_size, uint8_t *newest, size_t newest_size, uint8_t *batch, size_t batch_size)
 {
-    ASK_BUFFERS(kagutin_reply, {log, log_size}, {area, area_size}, {state, state_size}, {newest, newest_size}, {batch,
+    ASK_BUFFERS(kagutin_reply, code, {log, log_size}, {area, area_size}, {state, state_size}, {newest, newest_size}, {batch,
             batch_size})
     struct core_call_ask__Reply r = kagutin__kagutin_trim((struct core_slice_mut_u8){log, log_size}, (struct core_slice_u8){area, area_size},
             (struct core_slice_mut_u8){state, state_size}, (struct core_slice_mut_u8){newest, newest_size}, (struct core_slice_mut_u8){batch,
@@ -5677,12 +5936,23 @@ struct kagutin_reply kagutin_trim(uint8_t *log, size_t log_size, const uint8_t *
 struct kagutin_places kagutin_usage(const uint8_t *log, size_t log_size, const uint8_t *area, size_t area_size,
         const uint8_t *state, size_t state_size)
 {
-    ASK_BUFFERS(kagutin_places, {log, log_size}, {area, area_size}, {state, state_size})
+    ASK_BUFFERS(kagutin_places, code, {log, log_size}, {area, area_size}, {state, state_size})
     struct model__Usage r = kagutin__kagutin_usage((struct core_slice_u8){log, log_size}, (struct core_slice_u8){area, area_size},
             (struct core_slice_u8){state, state_size});
 
     return (struct kagutin_places){.code = r.code, .live = r.live, .dead = r.dead, .free = r.free, .promised = r.promised,
             .holder = r.holder, .first = r.first};
+}
+
+struct kagutin_action kagutin_next_action(const uint8_t *batch, size_t batch_size, uint64_t landing, uint64_t groups,
+        uint64_t homes, uint64_t next, uint64_t at, uint64_t headed, uint64_t stage)
+{
+    ASK_BUFFERS(kagutin_action, kind, {batch, batch_size})
+    struct object_runner__Action r = object_runner__kagutin_next_action((struct core_slice_u8){batch, batch_size}, landing, groups,
+            homes, next, at, headed, stage);
+
+    return (struct kagutin_action){.kind = r.kind, .area = r.area, .offset = r.offset, .size = r.size, .source = r.source,
+            .from = r.from, .at = r.at, .headed = r.headed, .stage = r.stage};
 }
 
 #undef APART
@@ -5797,14 +6067,14 @@ static bool bands_are_apart(const struct bands_lent *bands_lent, size_t count)
     return true;
 }
 
-#define ASK_BUFFERS(result, ...) \
+#define ASK_BUFFERS(result, answer, ...) \
     do { \
         const struct bands_lent all_lent[] = {__VA_ARGS__}; \
         if (!bands_are_apart(all_lent, sizeof all_lent / sizeof all_lent[0])) \
-            return (struct result){.code = 63u}; \
+            return (struct result){.answer = 63u}; \
     } while (0);
 #else
-#define ASK_BUFFERS(result, ...)
+#define ASK_BUFFERS(result, answer, ...)
 #endif
 
 /* The number that 2 bytes make, lowest byte first. */
@@ -6255,7 +6525,7 @@ static inline struct bands_call_ask__Reply unit_bands__kagutin_bands_set(struct 
 struct kagutin_band kagutin_bands_look_up(const uint8_t *log, size_t log_size, const uint8_t *area, size_t area_size,
         const uint8_t *state, size_t state_size, const uint8_t *newest, size_t newest_size, uint64_t writer, uint64_t mm)
 {
-    ASK_BUFFERS(kagutin_band, {log, log_size}, {area, area_size}, {state, state_size}, {newest, newest_size})
+    ASK_BUFFERS(kagutin_band, code, {log, log_size}, {area, area_size}, {state, state_size}, {newest, newest_size})
     struct unit_bands__Band r = unit_bands__kagutin_bands_look_up((struct bands_slice_u8){log, log_size}, (struct bands_slice_u8){area,
             area_size}, (struct bands_slice_u8){state, state_size}, (struct bands_slice_u8){newest, newest_size}, writer, mm);
 
@@ -6266,7 +6536,7 @@ struct kagutin_reply kagutin_bands_set(uint8_t *log, size_t log_size, const uint
         size_t state_size, uint8_t *newest, size_t newest_size, uint8_t *batch, size_t batch_size, const uint8_t *rows,
         size_t rows_size, uint64_t writer)
 {
-    ASK_BUFFERS(kagutin_reply, {log, log_size}, {area, area_size}, {state, state_size}, {newest, newest_size}, {batch,
+    ASK_BUFFERS(kagutin_reply, code, {log, log_size}, {area, area_size}, {state, state_size}, {newest, newest_size}, {batch,
             batch_size}, {rows, rows_size})
     struct bands_call_ask__Reply r = unit_bands__kagutin_bands_set((struct bands_slice_mut_u8){log, log_size}, (struct bands_slice_u8){area,
             area_size}, (struct bands_slice_mut_u8){state, state_size}, (struct bands_slice_mut_u8){newest, newest_size},
@@ -6371,14 +6641,14 @@ static bool hours_are_apart(const struct hours_lent *hours_lent, size_t count)
     return true;
 }
 
-#define ASK_BUFFERS(result, ...) \
+#define ASK_BUFFERS(result, answer, ...) \
     do { \
         const struct hours_lent all_lent[] = {__VA_ARGS__}; \
         if (!hours_are_apart(all_lent, sizeof all_lent / sizeof all_lent[0])) \
-            return (struct result){.code = 63u}; \
+            return (struct result){.answer = 63u}; \
     } while (0);
 #else
-#define ASK_BUFFERS(result, ...)
+#define ASK_BUFFERS(result, answer, ...)
 #endif
 
 static inline struct hours_call_ask__Reply hours_kagutin__kagutin_fetch(struct hours_slice_u8 log, struct hours_slice_u8 area, struct hours_slice_u8 state,
@@ -6680,7 +6950,7 @@ static inline struct hours_call_ask__Reply unit_hours__kagutin_pump_stop(struct 
 struct kagutin_hours kagutin_pump_hours(const uint8_t *log, size_t log_size, const uint8_t *area, size_t area_size,
         const uint8_t *state, size_t state_size, const uint8_t *newest, size_t newest_size, uint64_t writer, uint64_t pump)
 {
-    ASK_BUFFERS(kagutin_hours, {log, log_size}, {area, area_size}, {state, state_size}, {newest, newest_size})
+    ASK_BUFFERS(kagutin_hours, code, {log, log_size}, {area, area_size}, {state, state_size}, {newest, newest_size})
     struct unit_hours__Hours r = unit_hours__kagutin_pump_hours((struct hours_slice_u8){log, log_size}, (struct hours_slice_u8){area,
             area_size}, (struct hours_slice_u8){state, state_size}, (struct hours_slice_u8){newest, newest_size}, writer, pump);
 
@@ -6691,7 +6961,7 @@ struct kagutin_services kagutin_pump_services(const uint8_t *log, size_t log_siz
         const uint8_t *state, size_t state_size, const uint8_t *newest, size_t newest_size, uint64_t writer, uint64_t pump,
         uint64_t interval)
 {
-    ASK_BUFFERS(kagutin_services, {log, log_size}, {area, area_size}, {state, state_size}, {newest, newest_size})
+    ASK_BUFFERS(kagutin_services, code, {log, log_size}, {area, area_size}, {state, state_size}, {newest, newest_size})
     struct unit_hours__Services r = unit_hours__kagutin_pump_services((struct hours_slice_u8){log, log_size}, (struct hours_slice_u8){area,
             area_size}, (struct hours_slice_u8){state, state_size}, (struct hours_slice_u8){newest, newest_size}, writer, pump, interval);
 
@@ -6702,7 +6972,7 @@ struct kagutin_reply kagutin_pump_start(uint8_t *log, size_t log_size, const uin
         size_t state_size, uint8_t *newest, size_t newest_size, uint8_t *batch, size_t batch_size, uint64_t writer, uint64_t pump,
         uint32_t second)
 {
-    ASK_BUFFERS(kagutin_reply, {log, log_size}, {area, area_size}, {state, state_size}, {newest, newest_size}, {batch,
+    ASK_BUFFERS(kagutin_reply, code, {log, log_size}, {area, area_size}, {state, state_size}, {newest, newest_size}, {batch,
             batch_size})
     struct hours_call_ask__Reply r = unit_hours__kagutin_pump_start((struct hours_slice_mut_u8){log, log_size}, (struct hours_slice_u8){area,
             area_size}, (struct hours_slice_mut_u8){state, state_size}, (struct hours_slice_mut_u8){newest, newest_size},
@@ -6715,7 +6985,7 @@ struct kagutin_reply kagutin_pump_stop(uint8_t *log, size_t log_size, const uint
         size_t state_size, uint8_t *newest, size_t newest_size, uint8_t *batch, size_t batch_size, uint64_t writer, uint64_t pump,
         uint32_t second)
 {
-    ASK_BUFFERS(kagutin_reply, {log, log_size}, {area, area_size}, {state, state_size}, {newest, newest_size}, {batch,
+    ASK_BUFFERS(kagutin_reply, code, {log, log_size}, {area, area_size}, {state, state_size}, {newest, newest_size}, {batch,
             batch_size})
     struct hours_call_ask__Reply r = unit_hours__kagutin_pump_stop((struct hours_slice_mut_u8){log, log_size}, (struct hours_slice_u8){area,
             area_size}, (struct hours_slice_mut_u8){state, state_size}, (struct hours_slice_mut_u8){newest, newest_size},
@@ -6830,14 +7100,14 @@ static bool alarms_are_apart(const struct alarms_lent *alarms_lent, size_t count
     return true;
 }
 
-#define ASK_BUFFERS(result, ...) \
+#define ASK_BUFFERS(result, answer, ...) \
     do { \
         const struct alarms_lent all_lent[] = {__VA_ARGS__}; \
         if (!alarms_are_apart(all_lent, sizeof all_lent / sizeof all_lent[0])) \
-            return (struct result){.code = 63u}; \
+            return (struct result){.answer = 63u}; \
     } while (0);
 #else
-#define ASK_BUFFERS(result, ...)
+#define ASK_BUFFERS(result, answer, ...)
 #endif
 
 /* The number that 2 bytes make, lowest byte first. */
@@ -7269,7 +7539,7 @@ struct kagutin_reply kagutin_alarm_arrive(uint8_t *log, size_t log_size, const u
         size_t state_size, uint8_t *newest, size_t newest_size, uint8_t *batch, size_t batch_size, uint64_t writer,
         uint16_t identity, uint64_t class, uint32_t second)
 {
-    ASK_BUFFERS(kagutin_reply, {log, log_size}, {area, area_size}, {state, state_size}, {newest, newest_size}, {batch,
+    ASK_BUFFERS(kagutin_reply, code, {log, log_size}, {area, area_size}, {state, state_size}, {newest, newest_size}, {batch,
             batch_size})
     struct alarms_call_ask__Reply r = unit_alarms__kagutin_alarm_arrive((struct alarms_slice_mut_u8){log, log_size}, (struct alarms_slice_u8){area,
             area_size}, (struct alarms_slice_mut_u8){state, state_size}, (struct alarms_slice_mut_u8){newest, newest_size},
@@ -7282,7 +7552,7 @@ struct kagutin_reply kagutin_alarm_clear(uint8_t *log, size_t log_size, const ui
         size_t state_size, uint8_t *newest, size_t newest_size, uint8_t *batch, size_t batch_size, uint64_t writer,
         uint16_t identity)
 {
-    ASK_BUFFERS(kagutin_reply, {log, log_size}, {area, area_size}, {state, state_size}, {newest, newest_size}, {batch,
+    ASK_BUFFERS(kagutin_reply, code, {log, log_size}, {area, area_size}, {state, state_size}, {newest, newest_size}, {batch,
             batch_size})
     struct alarms_call_ask__Reply r = unit_alarms__kagutin_alarm_clear((struct alarms_slice_mut_u8){log, log_size}, (struct alarms_slice_u8){area,
             area_size}, (struct alarms_slice_mut_u8){state, state_size}, (struct alarms_slice_mut_u8){newest, newest_size},
@@ -7294,7 +7564,7 @@ struct kagutin_reply kagutin_alarm_clear(uint8_t *log, size_t log_size, const ui
 struct kagutin_alarm kagutin_alarm_gravest(const uint8_t *log, size_t log_size, const uint8_t *area, size_t area_size,
         const uint8_t *state, size_t state_size, const uint8_t *newest, size_t newest_size, uint64_t writer)
 {
-    ASK_BUFFERS(kagutin_alarm, {log, log_size}, {area, area_size}, {state, state_size}, {newest, newest_size})
+    ASK_BUFFERS(kagutin_alarm, code, {log, log_size}, {area, area_size}, {state, state_size}, {newest, newest_size})
     struct unit_alarms__Gravest r = unit_alarms__kagutin_alarm_gravest((struct alarms_slice_u8){log, log_size}, (struct alarms_slice_u8){area,
             area_size}, (struct alarms_slice_u8){state, state_size}, (struct alarms_slice_u8){newest, newest_size}, writer);
 
@@ -7397,7 +7667,7 @@ const char *kagutin_version(void)
     return KAGUTIN_VERSION;
 }
 
-static struct kgt_reply answer(uint64_t code)
+static struct kgt_reply object_answer(uint64_t code)
 {
     struct kgt_reply reply;
 
@@ -7426,10 +7696,9 @@ struct kgt_reply kgt_init(struct kagutin *store, uint8_t *memory, size_t size, s
     store->condition = KGT_IS_UNUSABLE;
     if (groups < KAGUTIN_MIN_GROUPS || groups > KAGUTIN_MAX_GROUPS || homes < KAGUTIN_MIN_HOMES || homes > KAGUTIN_MAX_HOMES
         || size < KGT_MEMORY_SIZE(groups, homes))
-        return answer(KAGUTIN_BAD_LENGTH);
+        return object_answer(KAGUTIN_BAD_LENGTH);
     if (!memory || !driver.load || !driver.write || !driver.fence)
-        return answer(KAGUTIN_BAD_LENGTH);
-    kgt_runner_init(&store->runner, driver, groups, homes);
+        return object_answer(KAGUTIN_BAD_LENGTH);
     store->log_size = KGT_LOG_SIZE(groups);
     store->area_size = KGT_HOMES_SIZE(homes);
     store->newest_size = KGT_NEWEST_SIZE(homes);
@@ -7439,36 +7708,37 @@ struct kgt_reply kgt_init(struct kagutin *store, uint8_t *memory, size_t size, s
     store->state = store->area + store->area_size;
     store->newest = store->state + KAGUTIN_STATE_SIZE;
     store->batch = store->newest + store->newest_size;
+    kgt_runner_init(&store->runner, driver, store->log, store->state, groups, homes);
     store->condition = KGT_IS_CLOSED;
-    return answer(KAGUTIN_DONE);
+    return object_answer(KAGUTIN_DONE);
 }
 
 struct kgt_reply kgt_set_lock(struct kagutin *store, int (*lock)(void *context), void (*unlock)(void *context), void *context)
 {
     if (store->condition == KGT_IS_UNUSABLE)
-        return answer(KGT_NOT_INIT);
+        return object_answer(KGT_NOT_INIT);
     if (!lock != !unlock)
-        return answer(KAGUTIN_BAD_LENGTH);
+        return object_answer(KAGUTIN_BAD_LENGTH);
     store->lock = lock;
     store->unlock = unlock;
     store->lock_context = context;
-    return answer(KAGUTIN_DONE);
+    return object_answer(KAGUTIN_DONE);
 }
 
 struct kgt_reply kgt_set_room(struct kagutin *store, enum kgt_room room)
 {
     if (store->condition == KGT_IS_UNUSABLE)
-        return answer(KGT_NOT_INIT);
+        return object_answer(KGT_NOT_INIT);
     store->room = room;
-    return answer(KAGUTIN_DONE);
+    return object_answer(KAGUTIN_DONE);
 }
 
 struct kgt_reply kgt_allow_list_stores(struct kagutin *store)
 {
     if (store->condition == KGT_IS_UNUSABLE)
-        return answer(KGT_NOT_INIT);
+        return object_answer(KGT_NOT_INIT);
     store->list_stores = true;
-    return answer(KAGUTIN_DONE);
+    return object_answer(KAGUTIN_DONE);
 }
 
 /* ---- around every call ---- */
@@ -7477,15 +7747,15 @@ struct kgt_reply kgt_allow_list_stores(struct kagutin *store)
 static struct kgt_reply object_take_lock(struct kagutin *store)
 {
     if (store->condition == KGT_IS_UNUSABLE)
-        return answer(KGT_NOT_INIT);
+        return object_answer(KGT_NOT_INIT);
     if (store->lock && store->lock(store->lock_context) != 0)
-        return answer(KGT_LOCK_FAILED);
-    return answer(KAGUTIN_DONE);
+        return object_answer(KGT_LOCK_FAILED);
+    return object_answer(KAGUTIN_DONE);
 }
 
 struct kgt_reply kgt_inner_leave(struct kagutin *store, struct kagutin_reply reply)
 {
-    struct kgt_reply told = answer(reply.code);
+    struct kgt_reply told = object_answer(reply.code);
     uint64_t first;
 
     if (reply.code == KAGUTIN_FULL || reply.code == KAGUTIN_NO_PLACES)
@@ -7541,7 +7811,11 @@ struct kagutin_reply kgt_inner_run(struct kagutin *store, struct kagutin_reply r
 
 /* ---- format and open ---- */
 
-/* Runs the batch of a format, which has made new copies already. After a failure no earlier write may arrive any more: load sees to that. */
+/*
+ * Runs the batch of a format, which has made new copies already; the state of the
+ * store before ends with it. After a failure no earlier write may arrive any more:
+ * load sees to that.
+ */
 static struct kagutin_reply run_format(struct kagutin *store, const uint8_t *batch, struct kagutin_reply format)
 {
     const struct kgt_driver *driver = &store->runner.driver;
@@ -7553,7 +7827,8 @@ static struct kagutin_reply run_format(struct kagutin *store, const uint8_t *bat
     if (error)
         return object_fail(store, error);
     store->condition = KGT_IS_CLOSED;
-    store->runner.waiting = 0;
+    store->runner.headed = KGT_NONE_WAITS;
+    memset(store->state, 0, KAGUTIN_STATE_SIZE);
     return run(store, batch, format);
 }
 
@@ -7578,7 +7853,7 @@ static struct kagutin_reply load_and_open(struct kagutin *store)
     int error;
 
     store->condition = KGT_IS_CLOSED;
-    store->runner.waiting = 0;
+    store->runner.headed = KGT_NONE_WAITS;
     error = driver->load(driver->context, KGT_LOG, 0, store->log, store->log_size);
     if (!error)
         error = driver->load(driver->context, KGT_HOMES, 0, store->area, store->area_size);
@@ -7891,14 +8166,14 @@ struct kgt_progress kgt_maintain(struct kagutin *store, uint64_t most)
 
 /* What the state tells of a log: its numbers, and who holds it back. */
 
+static uint64_t half_number(const uint8_t *bytes)
+{
+    return bytes[0] | (uint32_t)bytes[1] << 8 | (uint32_t)bytes[2] << 16 | (uint32_t)bytes[3] << 24;
+}
+
 uint64_t kgt_inner_number(const uint8_t *state, size_t at)
 {
-    uint64_t value = 0;
-    size_t i;
-
-    for (i = 8; i > 0; i--)
-        value = value << 8 | state[at + i - 1];
-    return value;
+    return half_number(state + at) | half_number(state + at + 4) << 32;
 }
 
 uint64_t kgt_inner_holder(const uint8_t *state, uint64_t *first)
@@ -8079,11 +8354,9 @@ struct kgt_reply kgt_get_rights(struct kagutin *store, uint64_t writer, struct k
 
 /* ==== c/store/batch.c ==== */
 
-/* Records of a batch, read and run on a driver. */
+/* Records of a batch, read; batches, run on a driver by the proved call. */
 #include <string.h>
 
-
-#define WORD 8u
 
 bool kgt_read_record(const uint8_t *batch, size_t size, size_t groups, size_t homes, struct kgt_record *record)
 {
@@ -8114,106 +8387,67 @@ bool kgt_read_record(const uint8_t *batch, size_t size, size_t groups, size_t ho
     return false;
 }
 
-void kgt_runner_init(struct kgt_runner *runner, struct kgt_driver driver, size_t groups, size_t homes)
+void kgt_runner_init(struct kgt_runner *runner, struct kgt_driver driver, const uint8_t *log, const uint8_t *state, size_t groups,
+                     size_t homes)
 {
     runner->driver = driver;
     runner->groups = groups;
     runner->homes = homes;
-    runner->waiting = 0;
+    runner->log = log;
+    runner->state = state;
+    runner->headed = KGT_NONE_WAITS;
 }
 
-/* What was written of the groups has arrived: their first words may follow. */
-static int write_heads(struct kgt_runner *runner)
+static int carry_out(const struct kgt_runner *runner, const uint8_t *batch, const struct kagutin_action *action)
 {
     const struct kgt_driver *driver = &runner->driver;
-    size_t i;
-    int error;
+    const uint8_t *source = action->source == 0 ? batch : runner->log;
 
-    if (runner->waiting == 0)
-        return 0;
-    error = driver->fence(driver->context);
-    for (i = 0; i < runner->waiting && !error; i++)
-        error = driver->write(driver->context, KGT_LOG, KGT_LOG_SIZE(runner->heads[i].slot), runner->heads[i].word, WORD);
-    runner->waiting = 0;
-    return error;
-}
-
-static bool is_zero(const uint8_t *word)
-{
-    static const uint8_t zeros[WORD] = {0};
-
-    return memcmp(word, zeros, WORD) == 0;
-}
-
-static int write_group(struct kgt_runner *runner, size_t slot, const uint8_t *bytes)
-{
-    const struct kgt_driver *driver = &runner->driver;
-    size_t at = KGT_LOG_SIZE(slot);
-    int error;
-
-    if (driver->landing == KGT_LANDS_BLOCKS || is_zero(bytes))
-        return driver->write(driver->context, KGT_LOG, at, bytes, KAGUTIN_GROUP_SIZE);
-    error = runner->waiting == KGT_HEADS ? write_heads(runner) : 0;
-    if (error)
-        return error;
-    runner->heads[runner->waiting].slot = slot;
-    memcpy(runner->heads[runner->waiting].word, bytes, WORD);
-    runner->waiting++;
-    return driver->write(driver->context, KGT_LOG, at + WORD, bytes + WORD, KAGUTIN_GROUP_SIZE - WORD);
-}
-
-/* A header without a mark, as a format begins with: the old mark is gone before any other word changes. */
-static int batch_write_header(struct kgt_runner *runner, const uint8_t *bytes)
-{
-    const struct kgt_driver *driver = &runner->driver;
-    int error = 0;
-
-    if (driver->landing == KGT_LANDS_WORDS && is_zero(bytes)) {
-        error = driver->write(driver->context, KGT_LOG, 0, bytes, WORD);
-        if (!error)
-            error = driver->fence(driver->context);
-    }
-    return error ? error : driver->write(driver->context, KGT_LOG, 0, bytes, KAGUTIN_HEADER_SIZE);
-}
-
-int kgt_run_fence(struct kgt_runner *runner)
-{
-    int error = write_heads(runner);
-
-    return error ? error : runner->driver.fence(runner->driver.context);
-}
-
-int kgt_run_record(struct kgt_runner *runner, const struct kgt_record *record)
-{
-    const struct kgt_driver *driver = &runner->driver;
-
-    switch (record->kind) {
-    case KGT_GW: return write_group(runner, record->place, record->bytes);
-    case KGT_HW:
-        return driver->write(driver->context, KGT_HOMES, KGT_HOMES_SIZE(record->place), record->bytes, KAGUTIN_BLOCK_SIZE);
-    case KGT_KW: return batch_write_header(runner, record->bytes);
-    default: return kgt_run_fence(runner);
-    }
+    if (action->kind == KAGUTIN_FENCE)
+        return driver->fence(driver->context);
+    if (action->kind != KAGUTIN_WRITE)
+        return KGT_BAD_BATCH;
+    return driver->write(driver->context, (enum kgt_area)action->area, (size_t)action->offset, source + (size_t)action->from,
+                         (size_t)action->size);
 }
 
 int kgt_run(struct kgt_runner *runner, const uint8_t *batch, size_t size)
 {
-    struct kgt_record record;
-    size_t at;
+    uint64_t next, at = 0, stage = 0;
 
-    for (at = 0; at < size; at += record.size) {
-        int error;
+    if (size == 0)
+        return 0;
+    next = runner->state ? kgt_inner_number(runner->state, STATE_NEXT) : 0;
+    if (runner->headed == KGT_NONE_WAITS)
+        runner->headed = next;
+    while (at < size) {
+        const struct kagutin_action now = kagutin_next_action(batch, size, runner->driver.landing, runner->groups, runner->homes,
+                                                              next, at, runner->headed, stage);
+        int error = carry_out(runner, batch, &now);
 
-        if (!kgt_read_record(batch + at, size - at, runner->groups, runner->homes, &record))
-            return KGT_BAD_BATCH;
-        error = kgt_run_record(runner, &record);
         if (error)
             return error;
+        at = now.at;
+        stage = now.stage;
+        runner->headed = now.headed;
     }
     return 0;
 }
 
-#undef WORD
+int kgt_run_record(struct kgt_runner *runner, const struct kgt_record *record)
+{
+    size_t head = record->kind == KGT_GW || record->kind == KGT_HW ? 4 : 2;
+
+    return kgt_run(runner, record->bytes - head, record->size);
+}
+
+int kgt_run_fence(struct kgt_runner *runner)
+{
+    static const uint8_t fence[KAGUTIN_FN_SIZE] = {'F', 'N'};
+
+    return kgt_run(runner, fence, sizeof fence);
+}
+
 
 /* ==== c/store/units.c ==== */
 
@@ -8625,7 +8859,7 @@ static int wipe_header(struct kgt_fram *fram)
  * A first word of zeros, which a format writes alone and then with the rest,
  * wipes both copies; anything else goes to the older one.
  */
-static int fram_write_header(struct kgt_fram *fram, const uint8_t *header, size_t size)
+static int write_header(struct kgt_fram *fram, const uint8_t *header, size_t size)
 {
     static const uint8_t no_mark[fram_WORD] = {0};
     uint8_t copy[2 * USED];
@@ -8670,7 +8904,7 @@ static int fram_write(void *context, enum kgt_area area, size_t at, const uint8_
 
     if (from >= KAGUTIN_HEADER_SIZE)
         return write_bytes(fram, from, bytes, size);
-    return from == 0 ? fram_write_header(fram, bytes, size) : BAD_RANGE;
+    return from == 0 ? write_header(fram, bytes, size) : BAD_RANGE;
 }
 
 static int fram_fence(void *context)
@@ -8807,7 +9041,7 @@ static bool file_format(struct kgt_file *file)
         return kgt_file_say(file, "out of memory");
     area = memory + file->log_size;
     batch = memory + file->size;
-    kgt_runner_init(&runner, driver, file->groups, file->homes);
+    kgt_runner_init(&runner, driver, NULL, NULL, file->groups, file->homes);
     reply = kagutin_format(memory, file->log_size, area, file->size - file->log_size, batch, batch_size);
     done = reply.code == KAGUTIN_DONE && kgt_run(&runner, batch, (size_t)reply.size) == 0;
     if (reply.code != KAGUTIN_DONE)

@@ -154,6 +154,26 @@ struct kagutin_places {
     uint64_t first;    /* position of that transaction's first entry; 0 with holder 8 */
 };
 
+/* What a driver is to do next for a batch: kagutin_next_action. But for a write area to from are 0. */
+struct kagutin_action {
+    uint64_t kind;   /* one of enum kagutin_kind; 63 as in enum kagutin_answer */
+    uint64_t area;   /* a write: to the log (0) or to the homes (1), */
+    uint64_t offset; /* at this byte of the area, */
+    uint64_t size;   /* so many bytes, 8 to 512, */
+    uint64_t source; /* which lie in the batch (0) or in the log copy (1), */
+    uint64_t from;   /* from this byte on */
+    uint64_t at;     /* the cursor to ask with when that is done: all records below this byte of the batch are carried out, */
+    uint64_t headed; /* the first words of all groups below this number are written, */
+    uint64_t stage;  /* and so many steps of the record at the byte are done */
+};
+
+enum kagutin_kind {
+    KAGUTIN_ALL_DONE = 0, /* all records are written and every fence has passed */
+    KAGUTIN_WRITE = 1,
+    KAGUTIN_FENCE = 2,  /* wait until all earlier writes are in lasting memory */
+    KAGUTIN_REFUSED = 3 /* no batch, or a cursor that none has; nothing is to be done */
+};
+
 /* Length of the log area of G groups, and of the data area of D homes. */
 static inline size_t kagutin_log_size(size_t groups)
 {
@@ -367,6 +387,29 @@ struct kagutin_reply kagutin_read(const uint8_t *log, size_t log_size, const uin
  */
 struct kagutin_places kagutin_usage(const uint8_t *log, size_t log_size, const uint8_t *area, size_t area_size,
                                     const uint8_t *state, size_t state_size);
+
+/*
+ * Tells what a driver is to do next for a batch. Ask, carry the action out, ask
+ * again with its cursor, until all is done; batch and log copy stay as they are
+ * meanwhile. An action that failed may have been carried out or not: then open,
+ * before all else. kgt_run of kagutin_store.h does this.
+ *
+ * landing: the medium keeps words of 8 bytes whole (0) or blocks of 64 (1); groups
+ * and homes are G and D. A batch begins at byte 0 and stage 0. next is the number
+ * of the next group: the eight bytes at offset 24 of the state as the batch's call
+ * has left it (docs/FORMAT.md), 0 for a format. headed goes on from batch to batch
+ * and is next for those of format and open. Refused: sizes or numbers out of
+ * range, and at the first byte where no record begins; nothing is asked of a
+ * record's bytes. On words:
+ *
+ *  - A group is written without its first word, which holds its number. At the
+ *    next fence come a fence, the first words of the groups from headed to below
+ *    next, which lie in the log copy where they lie in the log, and the fence.
+ *  - A header of zeros, with which a format begins, is its first word, a fence,
+ *    and then all of it. [S-85]
+ */
+struct kagutin_action kagutin_next_action(const uint8_t *batch, size_t batch_size, uint64_t landing, uint64_t groups,
+                                          uint64_t homes, uint64_t next, uint64_t at, uint64_t headed, uint64_t stage);
 
 #ifdef __cplusplus
 }
@@ -615,29 +658,33 @@ struct kgt_record {
 bool kgt_read_record(const uint8_t *batch, size_t size, size_t groups, size_t homes, struct kgt_record *record);
 
 /*
- * Runs records on a driver. Where blocks do not land whole, a group's first
- * word, which holds its number, is written after a fence that follows the rest
- * of it; until then the slot is a hole. Up to KGT_HEADS such words wait. A
- * group without a number, as format and open write them, is a hole anyway. A
- * header of zeros, with which a format begins, goes out as its first word, a
- * fence, then all of it: so no torn wipe makes a damaged header whole.
+ * Runs batches on a driver: what kagutin_next_action answers is carried out, and
+ * it is asked again. Where blocks do not land whole, a group's first word, which
+ * holds its number, is written after a fence that follows the rest of it; until
+ * then the slot is a hole. That word lies in the log copy, and the state has the
+ * number of the next group: both are those that the calls are lent. Where only
+ * blocks are written, or only a format is run, they may be null.
  */
-#define KGT_HEADS 16
 #define KGT_BAD_BATCH (-1000) /* the error for a batch that cannot be read [S-82] */
 
 struct kgt_runner {
     struct kgt_driver driver;
     size_t groups, homes;
-    size_t waiting; /* first words not yet written */
-    struct {
-        size_t slot;
-        uint8_t word[8];
-    } heads[KGT_HEADS];
+    const uint8_t *log, *state;
+    uint64_t headed; /* first words of all groups below this number are written; KGT_NONE_WAITS: of all there are */
 };
 
-void kgt_runner_init(struct kgt_runner *runner, struct kgt_driver driver, size_t groups, size_t homes);
+#define KGT_NONE_WAITS UINT64_MAX
 
-/* Each returns 0, or the error at which it stopped. */
+/* Before every opening and every format: no first word waits. */
+void kgt_runner_init(struct kgt_runner *runner, struct kgt_driver driver, const uint8_t *log, const uint8_t *state, size_t groups,
+                     size_t homes);
+
+/*
+ * Each returns 0, or the error at which it stopped; then open. A batch is run
+ * before the next call is made; a record is one that kgt_read_record has found
+ * in a batch.
+ */
 int kgt_run_record(struct kgt_runner *runner, const struct kgt_record *record);
 int kgt_run(struct kgt_runner *runner, const uint8_t *batch, size_t size);
 int kgt_run_fence(struct kgt_runner *runner);

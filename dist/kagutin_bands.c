@@ -104,14 +104,14 @@ static bool are_apart(const struct lent *lent, size_t count)
     return true;
 }
 
-#define ASK_BUFFERS(result, ...) \
+#define ASK_BUFFERS(result, answer, ...) \
     do { \
         const struct lent all_lent[] = {__VA_ARGS__}; \
         if (!are_apart(all_lent, sizeof all_lent / sizeof all_lent[0])) \
-            return (struct result){.code = 63u}; \
+            return (struct result){.answer = 63u}; \
     } while (0);
 #else
-#define ASK_BUFFERS(result, ...)
+#define ASK_BUFFERS(result, answer, ...)
 #endif
 
 /* The number that 2 bytes make, lowest byte first. */
@@ -562,7 +562,7 @@ static inline struct call_ask__Reply unit_bands__kagutin_bands_set(struct slice_
 struct kagutin_band kagutin_bands_look_up(const uint8_t *log, size_t log_size, const uint8_t *area, size_t area_size,
         const uint8_t *state, size_t state_size, const uint8_t *newest, size_t newest_size, uint64_t writer, uint64_t mm)
 {
-    ASK_BUFFERS(kagutin_band, {log, log_size}, {area, area_size}, {state, state_size}, {newest, newest_size})
+    ASK_BUFFERS(kagutin_band, code, {log, log_size}, {area, area_size}, {state, state_size}, {newest, newest_size})
     struct unit_bands__Band r = unit_bands__kagutin_bands_look_up((struct slice_u8){log, log_size}, (struct slice_u8){area,
             area_size}, (struct slice_u8){state, state_size}, (struct slice_u8){newest, newest_size}, writer, mm);
 
@@ -573,7 +573,7 @@ struct kagutin_reply kagutin_bands_set(uint8_t *log, size_t log_size, const uint
         size_t state_size, uint8_t *newest, size_t newest_size, uint8_t *batch, size_t batch_size, const uint8_t *rows,
         size_t rows_size, uint64_t writer)
 {
-    ASK_BUFFERS(kagutin_reply, {log, log_size}, {area, area_size}, {state, state_size}, {newest, newest_size}, {batch,
+    ASK_BUFFERS(kagutin_reply, code, {log, log_size}, {area, area_size}, {state, state_size}, {newest, newest_size}, {batch,
             batch_size}, {rows, rows_size})
     struct call_ask__Reply r = unit_bands__kagutin_bands_set((struct slice_mut_u8){log, log_size}, (struct slice_u8){area,
             area_size}, (struct slice_mut_u8){state, state_size}, (struct slice_mut_u8){newest, newest_size},

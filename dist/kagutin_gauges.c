@@ -90,14 +90,14 @@ static bool are_apart(const struct lent *lent, size_t count)
     return true;
 }
 
-#define ASK_BUFFERS(result, ...) \
+#define ASK_BUFFERS(result, answer, ...) \
     do { \
         const struct lent all_lent[] = {__VA_ARGS__}; \
         if (!are_apart(all_lent, sizeof all_lent / sizeof all_lent[0])) \
-            return (struct result){.code = 63u}; \
+            return (struct result){.answer = 63u}; \
     } while (0);
 #else
-#define ASK_BUFFERS(result, ...)
+#define ASK_BUFFERS(result, answer, ...)
 #endif
 
 /* Writes the low 2 bytes of a number, lowest byte first. */
@@ -283,7 +283,7 @@ static inline struct alone_gauges__Comparison alone_gauges__kagutin_compare_gaug
 struct kagutin_comparison kagutin_compare_gauges(const uint8_t *first, size_t first_size, const uint8_t *second,
         size_t second_size, uint8_t *report, size_t report_size, uint16_t tolerance)
 {
-    ASK_BUFFERS(kagutin_comparison, {first, first_size}, {second, second_size}, {report, report_size})
+    ASK_BUFFERS(kagutin_comparison, code, {first, first_size}, {second, second_size}, {report, report_size})
     struct alone_gauges__Comparison r = alone_gauges__kagutin_compare_gauges((struct slice_u8){first, first_size},
             (struct slice_u8){second, second_size}, (struct slice_mut_u8){report, report_size}, tolerance);
 

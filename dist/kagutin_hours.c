@@ -90,14 +90,14 @@ static bool are_apart(const struct lent *lent, size_t count)
     return true;
 }
 
-#define ASK_BUFFERS(result, ...) \
+#define ASK_BUFFERS(result, answer, ...) \
     do { \
         const struct lent all_lent[] = {__VA_ARGS__}; \
         if (!are_apart(all_lent, sizeof all_lent / sizeof all_lent[0])) \
-            return (struct result){.code = 63u}; \
+            return (struct result){.answer = 63u}; \
     } while (0);
 #else
-#define ASK_BUFFERS(result, ...)
+#define ASK_BUFFERS(result, answer, ...)
 #endif
 
 static inline struct call_ask__Reply kagutin__kagutin_fetch(struct slice_u8 log, struct slice_u8 area, struct slice_u8 state,
@@ -399,7 +399,7 @@ static inline struct call_ask__Reply unit_hours__kagutin_pump_stop(struct slice_
 struct kagutin_hours kagutin_pump_hours(const uint8_t *log, size_t log_size, const uint8_t *area, size_t area_size,
         const uint8_t *state, size_t state_size, const uint8_t *newest, size_t newest_size, uint64_t writer, uint64_t pump)
 {
-    ASK_BUFFERS(kagutin_hours, {log, log_size}, {area, area_size}, {state, state_size}, {newest, newest_size})
+    ASK_BUFFERS(kagutin_hours, code, {log, log_size}, {area, area_size}, {state, state_size}, {newest, newest_size})
     struct unit_hours__Hours r = unit_hours__kagutin_pump_hours((struct slice_u8){log, log_size}, (struct slice_u8){area,
             area_size}, (struct slice_u8){state, state_size}, (struct slice_u8){newest, newest_size}, writer, pump);
 
@@ -410,7 +410,7 @@ struct kagutin_services kagutin_pump_services(const uint8_t *log, size_t log_siz
         const uint8_t *state, size_t state_size, const uint8_t *newest, size_t newest_size, uint64_t writer, uint64_t pump,
         uint64_t interval)
 {
-    ASK_BUFFERS(kagutin_services, {log, log_size}, {area, area_size}, {state, state_size}, {newest, newest_size})
+    ASK_BUFFERS(kagutin_services, code, {log, log_size}, {area, area_size}, {state, state_size}, {newest, newest_size})
     struct unit_hours__Services r = unit_hours__kagutin_pump_services((struct slice_u8){log, log_size}, (struct slice_u8){area,
             area_size}, (struct slice_u8){state, state_size}, (struct slice_u8){newest, newest_size}, writer, pump, interval);
 
@@ -421,7 +421,7 @@ struct kagutin_reply kagutin_pump_start(uint8_t *log, size_t log_size, const uin
         size_t state_size, uint8_t *newest, size_t newest_size, uint8_t *batch, size_t batch_size, uint64_t writer, uint64_t pump,
         uint32_t second)
 {
-    ASK_BUFFERS(kagutin_reply, {log, log_size}, {area, area_size}, {state, state_size}, {newest, newest_size}, {batch,
+    ASK_BUFFERS(kagutin_reply, code, {log, log_size}, {area, area_size}, {state, state_size}, {newest, newest_size}, {batch,
             batch_size})
     struct call_ask__Reply r = unit_hours__kagutin_pump_start((struct slice_mut_u8){log, log_size}, (struct slice_u8){area,
             area_size}, (struct slice_mut_u8){state, state_size}, (struct slice_mut_u8){newest, newest_size},
@@ -434,7 +434,7 @@ struct kagutin_reply kagutin_pump_stop(uint8_t *log, size_t log_size, const uint
         size_t state_size, uint8_t *newest, size_t newest_size, uint8_t *batch, size_t batch_size, uint64_t writer, uint64_t pump,
         uint32_t second)
 {
-    ASK_BUFFERS(kagutin_reply, {log, log_size}, {area, area_size}, {state, state_size}, {newest, newest_size}, {batch,
+    ASK_BUFFERS(kagutin_reply, code, {log, log_size}, {area, area_size}, {state, state_size}, {newest, newest_size}, {batch,
             batch_size})
     struct call_ask__Reply r = unit_hours__kagutin_pump_stop((struct slice_mut_u8){log, log_size}, (struct slice_u8){area,
             area_size}, (struct slice_mut_u8){state, state_size}, (struct slice_mut_u8){newest, newest_size},

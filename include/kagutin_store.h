@@ -185,29 +185,33 @@ struct kgt_record {
 bool kgt_read_record(const uint8_t *batch, size_t size, size_t groups, size_t homes, struct kgt_record *record);
 
 /*
- * Runs records on a driver. Where blocks do not land whole, a group's first
- * word, which holds its number, is written after a fence that follows the rest
- * of it; until then the slot is a hole. Up to KGT_HEADS such words wait. A
- * group without a number, as format and open write them, is a hole anyway. A
- * header of zeros, with which a format begins, goes out as its first word, a
- * fence, then all of it: so no torn wipe makes a damaged header whole.
+ * Runs batches on a driver: what kagutin_next_action answers is carried out, and
+ * it is asked again. Where blocks do not land whole, a group's first word, which
+ * holds its number, is written after a fence that follows the rest of it; until
+ * then the slot is a hole. That word lies in the log copy, and the state has the
+ * number of the next group: both are those that the calls are lent. Where only
+ * blocks are written, or only a format is run, they may be null.
  */
-#define KGT_HEADS 16
 #define KGT_BAD_BATCH (-1000) /* the error for a batch that cannot be read [S-82] */
 
 struct kgt_runner {
     struct kgt_driver driver;
     size_t groups, homes;
-    size_t waiting; /* first words not yet written */
-    struct {
-        size_t slot;
-        uint8_t word[8];
-    } heads[KGT_HEADS];
+    const uint8_t *log, *state;
+    uint64_t headed; /* first words of all groups below this number are written; KGT_NONE_WAITS: of all there are */
 };
 
-void kgt_runner_init(struct kgt_runner *runner, struct kgt_driver driver, size_t groups, size_t homes);
+#define KGT_NONE_WAITS UINT64_MAX
 
-/* Each returns 0, or the error at which it stopped. */
+/* Before every opening and every format: no first word waits. */
+void kgt_runner_init(struct kgt_runner *runner, struct kgt_driver driver, const uint8_t *log, const uint8_t *state, size_t groups,
+                     size_t homes);
+
+/*
+ * Each returns 0, or the error at which it stopped; then open. A batch is run
+ * before the next call is made; a record is one that kgt_read_record has found
+ * in a batch.
+ */
 int kgt_run_record(struct kgt_runner *runner, const struct kgt_record *record);
 int kgt_run(struct kgt_runner *runner, const uint8_t *batch, size_t size);
 int kgt_run_fence(struct kgt_runner *runner);

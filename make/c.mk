@@ -11,6 +11,7 @@
 # rights-cost                    what questions 19 and 20 cost, by callgrind
 # question-cost                  what question 2 costs; with LIB the archive it is a function of its own
 # wait-cost                      the longest waits: steps, reads, commits and trims over full logs
+# object-cost                    the object's calls on a driver that does nothing
 # c-kills                        longer: KILLS kills of a process at work, on this disk
 # c-dist                         headers and sources of the store object and its drivers into DIST
 # install, uninstall             headers, libraries, pkg-config files, the program and its manual pages, under DESTDIR and PREFIX, or LIBDIR and INCLUDEDIR
@@ -39,6 +40,7 @@ C_STORE_CHECK = tests/store/store_check tests/common/play $(C_STORE)
 C_RESERVE_CHECK = tests/store/reserve_check $(C_STORE)
 C_MANY_CHECK = tests/store/many_check
 C_HEADS_CHECK = tests/store/heads_check $(C_STORE)
+C_RUNNER_CHECK = $(addprefix tests/store/,runner_check runner_trace hand_runner) $(C_STORE)
 C_ROUND_CHECK = tests/store/round_check $(C_STORE)
 C_RIGHTS_CHECK = tests/store/rights_check $(C_STORE)
 C_FILE_CHECK = tests/drivers/file_check tests/common/play $(C_STORE)
@@ -54,7 +56,8 @@ C_GAUGES_COST = tests/costs/gauges_cost
 C_RIGHTS_COST = tests/costs/rights_cost
 C_QUESTION_COST = tests/costs/question_cost
 C_WAIT_COST = tests/costs/wait_cost
-C_PROGRAMS = quickstart driver_check store_check reserve_check many_check heads_check round_check rights_check file_check create_check kill_check fram_check dump_check format_check reopen_check disk_check seal_check gauges_cost rights_cost question_cost wait_cost
+C_OBJECT_COST = tests/costs/object_cost $(C_STORE)
+C_PROGRAMS = quickstart driver_check store_check reserve_check many_check heads_check runner_check round_check rights_check file_check create_check kill_check fram_check dump_check format_check reopen_check disk_check seal_check gauges_cost rights_cost question_cost wait_cost object_cost
 
 .PHONY: quickstart c-sanitize c-check c-kills c-dist install uninstall c-clean
 
@@ -95,6 +98,7 @@ $(eval $(call C_PROGRAM,store_check,$(C_STORE_CHECK),$(LIB)))
 $(eval $(call C_PROGRAM,reserve_check,$(C_RESERVE_CHECK),$(LIB)))
 $(eval $(call C_PROGRAM,many_check,$(C_MANY_CHECK),$(LIB)))
 $(eval $(call C_PROGRAM,heads_check,$(C_HEADS_CHECK),$(LIB)))
+$(eval $(call C_PROGRAM,runner_check,$(C_RUNNER_CHECK),$(LIB)))
 $(eval $(call C_PROGRAM,round_check,$(C_ROUND_CHECK),$(LIB)))
 $(eval $(call C_PROGRAM,rights_check,$(C_RIGHTS_CHECK),$(LIB)))
 $(eval $(call C_PROGRAM,file_check,$(C_FILE_CHECK),$(LIB)))
@@ -110,6 +114,7 @@ $(eval $(call C_PROGRAM,gauges_cost,$(C_GAUGES_COST),$(GAUGES_LIB)))
 $(eval $(call C_PROGRAM,rights_cost,$(C_RIGHTS_COST),$(LIB)))
 $(eval $(call C_PROGRAM,question_cost,$(C_QUESTION_COST),$(LIB)))
 $(eval $(call C_PROGRAM,wait_cost,$(C_WAIT_COST),$(LIB)))
+$(eval $(call C_PROGRAM,object_cost,$(C_OBJECT_COST),$(LIB)))
 
 c-check: $(C_PROGRAMS:%=$(C_OUT)/%) c-sanitize
 	CC="$(CC)" LIB="$(LIB)" C_LIBS="$(C_LIBS)" sh tests/c-check.sh $(C_OUT)
@@ -117,14 +122,14 @@ c-check: $(C_PROGRAMS:%=$(C_OUT)/%) c-sanitize
 	CC="$(CC)" LIB="$(LIB)" GAUGES_LIB="$(GAUGES_LIB)" INFLOW_LIB="$(INFLOW_LIB)" sh tests/programs/inflow-check.sh $(C_OUT)
 
 # The quick tests, in seconds.
-C_QUICK = station inspect quickstart gauges inflow bands wear driver_check store_check reserve_check round_check rights_check file_check fram_check \
+C_QUICK = station inspect quickstart gauges inflow bands wear driver_check store_check reserve_check runner_check round_check rights_check file_check fram_check \
     format_check reopen_check powerloss_check units_check replies_check lock_check misuse_check
 .PHONY: c-quick
 c-quick: $(C_QUICK:%=$(C_OUT)/%)
 	CC="$(CC)" LIB="$(LIB)" C_LIBS="$(C_LIBS)" sh tests/quick.sh $(C_OUT)
 
-# Instructions of a store and a read under a list of rights, of question 2, and of the longest calls, by callgrind.
-.PHONY: rights-cost question-cost wait-cost
+# Instructions of a store and a read under a list of rights, of question 2, of the longest calls and of the object's, by callgrind.
+.PHONY: rights-cost question-cost wait-cost object-cost
 rights-cost: $(C_OUT)/rights_cost
 	sh tests/costs/rights-cost.sh $(C_OUT)
 
@@ -134,9 +139,12 @@ question-cost: $(C_OUT)/question_cost
 wait-cost: $(C_OUT)/wait_cost
 	@if command -v valgrind > /dev/null; then sh tests/costs/wait-cost.sh $(C_OUT); else echo "skipped the longest waits: valgrind is not installed"; fi
 
+object-cost: $(C_OUT)/object_cost
+	@if command -v valgrind > /dev/null; then sh tests/costs/object-cost.sh $(C_OUT); else echo "skipped the cost of the object: valgrind is not installed"; fi
+
 # Their bounds are those of the C file.
 ifeq ($(LIB),$(C_OUT)/libkagutin.a)
-c-check: wait-cost
+c-check: wait-cost object-cost
 endif
 
 # A process killed at random instants, long.

@@ -9,10 +9,10 @@
 # arm             trials and recorded calls with cuts on emulated boards (Cortex-M0+, M4, M33), Arm, RISC-V and a big-endian machine
 
 # Crates whose extern "C" functions are the library, the header that declares them, and the structs of their results.
-EXPORTS = kagutin
+EXPORTS = kagutin object_runner
 DIST_C = dist/kagutin.c
 DIST_HEADERS = kagutin.h kagutin_chains.h
-DIST_RESULTS = call_ask::Reply=kagutin_reply model::Usage=kagutin_places
+DIST_RESULTS = call_ask::Reply=kagutin_reply model::Usage=kagutin_places object_runner::Action=kagutin_action
 
 PORT_OUT = target/port
 GENERATOR = python3 port/generate.py --rlib target/rlib --source crates

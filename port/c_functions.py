@@ -274,11 +274,12 @@ class FunctionText(Values):
         if not lent:
             return
         t = f.types[0]
-        if isinstance(t, Named) and self.types.is_struct(t) and ('code', U64) in self.types.members(t):
+        first = self.types.members(t)[0] if isinstance(t, Named) and self.types.is_struct(t) else None
+        if first in (('code', U64), ('kind', U64)):
             self.helpers.add('ASK_BUFFERS')
-            self.line(1, f'ASK_BUFFERS({results[t.name]}, {", ".join(lent)})')
+            self.line(1, f'ASK_BUFFERS({results[t.name]}, {first[0]}, {", ".join(lent)})')
         else:
-            self.out += ['#ifdef KAGUTIN_CHECK_BUFFERS', f'#error "{export.name} has no code to answer with"', '#endif']
+            self.out += ['#ifdef KAGUTIN_CHECK_BUFFERS', f'#error "{export.name} has no code or kind to answer with"', '#endif']
 
     def size_in_bytes(self, name, t):
         return f'{name}_size' if t.item == U8 else f'{name}_size * sizeof *{name}'

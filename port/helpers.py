@@ -62,14 +62,14 @@ static bool are_apart(const struct lent *lent, size_t count)
     return true;
 }
 
-#define ASK_BUFFERS(result, ...) \\
+#define ASK_BUFFERS(result, answer, ...) \\
     do { \\
         const struct lent all_lent[] = {__VA_ARGS__}; \\
         if (!are_apart(all_lent, sizeof all_lent / sizeof all_lent[0])) \\
-            return (struct result){.code = 63u}; \\
+            return (struct result){.answer = 63u}; \\
     } while (0);
 #else
-#define ASK_BUFFERS(result, ...)
+#define ASK_BUFFERS(result, answer, ...)
 #endif
 '''
 

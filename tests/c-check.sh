@@ -86,7 +86,8 @@ gives 0 "store: power gone after every byte, any words or blocks at a cut" "$out
 gives 0 "store: the same under sanitizers, every 17 bytes" "$san/store_check" 17 1500
 gives 0 "store: places promised beforehand" "$san/reserve_check"
 gives 0 "store: calls on several homes, refusal by refusal" "$san/many_check"
-gives 0 "store: more first words than may wait" "$san/heads_check"
+gives 0 "store: many first words wait, power gone after every few bytes" "$san/heads_check"
+gives 0 "store: the runner beside one written by hand, batches and histories" "$san/runner_check"
 gives 0 "store: settling in small steps, cut inside a round" "$san/round_check"
 gives 0 "store: the list of rights, its ranges and the moment it counts" "$san/rights_check"
 gives 0 "files: written and mapped, stopped inside writes, locks, failures" "$san/file_check" "$fast"

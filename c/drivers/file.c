@@ -78,7 +78,7 @@ static bool format(struct kgt_file *file)
         return kgt_file_say(file, "out of memory");
     area = memory + file->log_size;
     batch = memory + file->size;
-    kgt_runner_init(&runner, driver, file->groups, file->homes);
+    kgt_runner_init(&runner, driver, NULL, NULL, file->groups, file->homes);
     reply = kagutin_format(memory, file->log_size, area, file->size - file->log_size, batch, batch_size);
     done = reply.code == KAGUTIN_DONE && kgt_run(&runner, batch, (size_t)reply.size) == 0;
     if (reply.code != KAGUTIN_DONE)

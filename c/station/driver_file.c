@@ -49,7 +49,7 @@ static bool use_file(struct driver *driver, bool ready)
         return driver_fail(driver, "%s", driver->file.message);
     if (!allocate(driver, driver->file.groups, driver->file.homes))
         return false;
-    kgt_runner_init(&driver->runner, kgt_file_driver(&driver->file), driver->groups, driver->homes);
+    kgt_runner_init(&driver->runner, kgt_file_driver(&driver->file), NULL, NULL, driver->groups, driver->homes);
     return driver_load(driver);
 }
 
@@ -78,7 +78,8 @@ bool driver_create_unnamed(struct driver *driver, size_t groups, size_t homes)
     if (!driver->image)
         return driver_fail(driver, "out of memory for lasting memory");
     kgt_memory_init(&driver->memory, driver->image, driver->image + size, groups, homes);
-    kgt_runner_init(&driver->runner, kgt_memory_driver(&driver->memory), groups, homes);
+    kgt_memory_keep_blocks(&driver->memory);
+    kgt_runner_init(&driver->runner, kgt_memory_driver(&driver->memory), NULL, NULL, groups, homes);
     reply = kagutin_format(driver->log, driver->log_size, driver->area, driver->area_size, driver->batch, driver->batch_size);
     if (reply.code != KAGUTIN_DONE)
         return driver_fail(driver, "format answered %llu: %s", (unsigned long long)reply.code, kagutin_answer_text(reply.code));

@@ -1,9 +1,7 @@
-/* Records of a batch, read and run on a driver. */
+/* Records of a batch, read; batches, run on a driver by the proved call. */
 #include <string.h>
 
-#include "kagutin_store.h"
-
-#define WORD 8u
+#include "kagutin_store_inner.h"
 
 bool kgt_read_record(const uint8_t *batch, size_t size, size_t groups, size_t homes, struct kgt_record *record)
 {
@@ -34,101 +32,63 @@ bool kgt_read_record(const uint8_t *batch, size_t size, size_t groups, size_t ho
     return false;
 }
 
-void kgt_runner_init(struct kgt_runner *runner, struct kgt_driver driver, size_t groups, size_t homes)
+void kgt_runner_init(struct kgt_runner *runner, struct kgt_driver driver, const uint8_t *log, const uint8_t *state, size_t groups,
+                     size_t homes)
 {
     runner->driver = driver;
     runner->groups = groups;
     runner->homes = homes;
-    runner->waiting = 0;
+    runner->log = log;
+    runner->state = state;
+    runner->headed = KGT_NONE_WAITS;
 }
 
-/* What was written of the groups has arrived: their first words may follow. */
-static int write_heads(struct kgt_runner *runner)
+static int carry_out(const struct kgt_runner *runner, const uint8_t *batch, const struct kagutin_action *action)
 {
     const struct kgt_driver *driver = &runner->driver;
-    size_t i;
-    int error;
+    const uint8_t *source = action->source == 0 ? batch : runner->log;
 
-    if (runner->waiting == 0)
-        return 0;
-    error = driver->fence(driver->context);
-    for (i = 0; i < runner->waiting && !error; i++)
-        error = driver->write(driver->context, KGT_LOG, KGT_LOG_SIZE(runner->heads[i].slot), runner->heads[i].word, WORD);
-    runner->waiting = 0;
-    return error;
-}
-
-static bool is_zero(const uint8_t *word)
-{
-    static const uint8_t zeros[WORD] = {0};
-
-    return memcmp(word, zeros, WORD) == 0;
-}
-
-static int write_group(struct kgt_runner *runner, size_t slot, const uint8_t *bytes)
-{
-    const struct kgt_driver *driver = &runner->driver;
-    size_t at = KGT_LOG_SIZE(slot);
-    int error;
-
-    if (driver->landing == KGT_LANDS_BLOCKS || is_zero(bytes))
-        return driver->write(driver->context, KGT_LOG, at, bytes, KAGUTIN_GROUP_SIZE);
-    error = runner->waiting == KGT_HEADS ? write_heads(runner) : 0;
-    if (error)
-        return error;
-    runner->heads[runner->waiting].slot = slot;
-    memcpy(runner->heads[runner->waiting].word, bytes, WORD);
-    runner->waiting++;
-    return driver->write(driver->context, KGT_LOG, at + WORD, bytes + WORD, KAGUTIN_GROUP_SIZE - WORD);
-}
-
-/* A header without a mark, as a format begins with: the old mark is gone before any other word changes. */
-static int write_header(struct kgt_runner *runner, const uint8_t *bytes)
-{
-    const struct kgt_driver *driver = &runner->driver;
-    int error = 0;
-
-    if (driver->landing == KGT_LANDS_WORDS && is_zero(bytes)) {
-        error = driver->write(driver->context, KGT_LOG, 0, bytes, WORD);
-        if (!error)
-            error = driver->fence(driver->context);
-    }
-    return error ? error : driver->write(driver->context, KGT_LOG, 0, bytes, KAGUTIN_HEADER_SIZE);
-}
-
-int kgt_run_fence(struct kgt_runner *runner)
-{
-    int error = write_heads(runner);
-
-    return error ? error : runner->driver.fence(runner->driver.context);
-}
-
-int kgt_run_record(struct kgt_runner *runner, const struct kgt_record *record)
-{
-    const struct kgt_driver *driver = &runner->driver;
-
-    switch (record->kind) {
-    case KGT_GW: return write_group(runner, record->place, record->bytes);
-    case KGT_HW:
-        return driver->write(driver->context, KGT_HOMES, KGT_HOMES_SIZE(record->place), record->bytes, KAGUTIN_BLOCK_SIZE);
-    case KGT_KW: return write_header(runner, record->bytes);
-    default: return kgt_run_fence(runner);
-    }
+    if (action->kind == KAGUTIN_FENCE)
+        return driver->fence(driver->context);
+    if (action->kind != KAGUTIN_WRITE)
+        return KGT_BAD_BATCH;
+    return driver->write(driver->context, (enum kgt_area)action->area, (size_t)action->offset, source + (size_t)action->from,
+                         (size_t)action->size);
 }
 
 int kgt_run(struct kgt_runner *runner, const uint8_t *batch, size_t size)
 {
-    struct kgt_record record;
-    size_t at;
+    uint64_t next, at = 0, stage = 0;
 
-    for (at = 0; at < size; at += record.size) {
-        int error;
+    if (size == 0)
+        return 0;
+    next = runner->state ? kgt_inner_number(runner->state, STATE_NEXT) : 0;
+    if (runner->headed == KGT_NONE_WAITS)
+        runner->headed = next;
+    while (at < size) {
+        const struct kagutin_action now = kagutin_next_action(batch, size, runner->driver.landing, runner->groups, runner->homes,
+                                                              next, at, runner->headed, stage);
+        int error = carry_out(runner, batch, &now);
 
-        if (!kgt_read_record(batch + at, size - at, runner->groups, runner->homes, &record))
-            return KGT_BAD_BATCH;
-        error = kgt_run_record(runner, &record);
         if (error)
             return error;
+        at = now.at;
+        stage = now.stage;
+        runner->headed = now.headed;
     }
     return 0;
+}
+
+int kgt_run_record(struct kgt_runner *runner, const struct kgt_record *record)
+{
+    size_t head = record->kind == KGT_GW || record->kind == KGT_HW ? 4 : 2;
+
+    return kgt_run(runner, record->bytes - head, record->size);
+}
+
+int kgt_run_fence(struct kgt_runner *runner)
+{
+    static const uint8_t fence[KAGUTIN_FN_SIZE] = {'F', 'N'};
+
+    return kgt_run(runner, fence, sizeof fence);
 }

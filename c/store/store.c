@@ -53,7 +53,6 @@ struct kgt_reply kgt_init(struct kagutin *store, uint8_t *memory, size_t size, s
         return answer(KAGUTIN_BAD_LENGTH);
     if (!memory || !driver.load || !driver.write || !driver.fence)
         return answer(KAGUTIN_BAD_LENGTH);
-    kgt_runner_init(&store->runner, driver, groups, homes);
     store->log_size = KGT_LOG_SIZE(groups);
     store->area_size = KGT_HOMES_SIZE(homes);
     store->newest_size = KGT_NEWEST_SIZE(homes);
@@ -63,6 +62,7 @@ struct kgt_reply kgt_init(struct kagutin *store, uint8_t *memory, size_t size, s
     store->state = store->area + store->area_size;
     store->newest = store->state + KAGUTIN_STATE_SIZE;
     store->batch = store->newest + store->newest_size;
+    kgt_runner_init(&store->runner, driver, store->log, store->state, groups, homes);
     store->condition = KGT_IS_CLOSED;
     return answer(KAGUTIN_DONE);
 }
@@ -165,7 +165,11 @@ struct kagutin_reply kgt_inner_run(struct kagutin *store, struct kagutin_reply r
 
 /* ---- format and open ---- */
 
-/* Runs the batch of a format, which has made new copies already. After a failure no earlier write may arrive any more: load sees to that. */
+/*
+ * Runs the batch of a format, which has made new copies already; the state of the
+ * store before ends with it. After a failure no earlier write may arrive any more:
+ * load sees to that.
+ */
 static struct kagutin_reply run_format(struct kagutin *store, const uint8_t *batch, struct kagutin_reply format)
 {
     const struct kgt_driver *driver = &store->runner.driver;
@@ -177,7 +181,8 @@ static struct kagutin_reply run_format(struct kagutin *store, const uint8_t *bat
     if (error)
         return fail(store, error);
     store->condition = KGT_IS_CLOSED;
-    store->runner.waiting = 0;
+    store->runner.headed = KGT_NONE_WAITS;
+    memset(store->state, 0, KAGUTIN_STATE_SIZE);
     return run(store, batch, format);
 }
 
@@ -202,7 +207,7 @@ static struct kagutin_reply load_and_open(struct kagutin *store)
     int error;
 
     store->condition = KGT_IS_CLOSED;
-    store->runner.waiting = 0;
+    store->runner.headed = KGT_NONE_WAITS;
     error = driver->load(driver->context, KGT_LOG, 0, store->log, store->log_size);
     if (!error)
         error = driver->load(driver->context, KGT_HOMES, 0, store->area, store->area_size);

@@ -1,14 +1,14 @@
 /* What the state tells of a log: its numbers, and who holds it back. */
 #include "kagutin_store_inner.h"
 
+static uint64_t half_number(const uint8_t *bytes)
+{
+    return bytes[0] | (uint32_t)bytes[1] << 8 | (uint32_t)bytes[2] << 16 | (uint32_t)bytes[3] << 24;
+}
+
 uint64_t kgt_inner_number(const uint8_t *state, size_t at)
 {
-    uint64_t value = 0;
-    size_t i;
-
-    for (i = 8; i > 0; i--)
-        value = value << 8 | state[at + i - 1];
-    return value;
+    return half_number(state + at) | half_number(state + at + 4) << 32;
 }
 
 uint64_t kgt_inner_holder(const uint8_t *state, uint64_t *first)

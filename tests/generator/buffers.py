@@ -60,6 +60,7 @@ class Call:
     def __init__(self, library, structs, name, result, params):
         self.name, self.params, self.function = name, params, getattr(library, name)
         self.function.restype = self.result = structs[result]
+        self.answer = self.result._fields_[0][0]           # code, or kind of an action
         self.buffers = sum('*' in p for p in params)
         self.memory = (ctypes.c_uint8 * (SIZE * (self.buffers + 2)))()
         self.start = ctypes.addressof(self.memory)
@@ -83,11 +84,11 @@ class Call:
 
     def refuses(self, lent, how):
         fields, untouched = self.run(lent)
-        if fields.pop('code') != BAD_BUFFERS or any(fields.values()) or not untouched:
+        if fields.pop(self.answer) != BAD_BUFFERS or any(fields.values()) or not untouched:
             fail(f'{self.name}, {how}: {fields}, memory {"as it was" if untouched else "touched"}')
 
     def takes(self, lent, how):
-        if self.run(lent)[0]['code'] == BAD_BUFFERS:
+        if self.run(lent)[0][self.answer] == BAD_BUFFERS:
             fail(f'{self.name}, {how}: refused')
 
 

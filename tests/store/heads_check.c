@@ -1,9 +1,10 @@
 /*
- * More groups between two fences than first words may wait (KGT_HEADS), on a
- * medium that keeps words: the object then fences and writes the words that
- * wait before the next group. Power goes after every few bytes, and of the words
- * since the last fence none, all or any arrive; what comes back is a prefix of
- * the commits, whole, and all of them once a sync is done.
+ * Many groups between two fences on a medium that keeps words: the first words
+ * of all of them wait for the sync. Power goes after every few bytes, and of the
+ * words since the last fence none, all or any arrive; what comes back is a prefix
+ * of the commits, whole, and all of them once a sync is done. Before that none
+ * of the first words is written, so without a sync nothing comes back. And words
+ * that wait when the driver fails are forgotten by the next opening or format.
  */
 /* Clauses: [S-54, S-55, S-57, S-82] */
 #include <stdio.h>
@@ -12,7 +13,7 @@
 
 #include "kagutin_memory.h"
 
-enum { GROUPS = 48, HOMES = 8, COMMITS = 2 * KGT_HEADS + 5, BLOCKS = KAGUTIN_GROUP_ENTRIES };
+enum { GROUPS = 48, HOMES = 8, COMMITS = 37, BLOCKS = KAGUTIN_GROUP_ENTRIES };
 
 static uint8_t memory[KGT_MEMORY_SIZE(GROUPS, HOMES)], scratch[KGT_FORMAT_SIZE(GROUPS, HOMES)];
 static uint8_t lasting[KGT_LOG_SIZE(GROUPS) + KGT_HOMES_SIZE(HOMES)], written[sizeof lasting], formatted[sizeof lasting];
@@ -28,10 +29,30 @@ static void check(bool right, const char *what, unsigned long at)
     exit(1);
 }
 
+static struct kgt_driver inner;
+static unsigned long calls; /* writes and fences so far */
+
+static int counted_write(void *context, enum kgt_area area, size_t at, const uint8_t *bytes, size_t size)
+{
+    calls++;
+    return inner.write(context, area, at, bytes, size);
+}
+
+static int counted_fence(void *context)
+{
+    calls++;
+    return inner.fence(context);
+}
+
 static void power_on(void)
 {
+    struct kgt_driver driver;
+
     kgt_memory_init(&medium, lasting, written, GROUPS, HOMES);
-    check(kgt_init(&store, memory, sizeof memory, GROUPS, HOMES, kgt_memory_driver(&medium)).code == KAGUTIN_DONE, "init", 0);
+    driver = inner = kgt_memory_driver(&medium);
+    driver.write = counted_write;
+    driver.fence = counted_fence;
+    check(kgt_init(&store, memory, sizeof memory, GROUPS, HOMES, driver).code == KAGUTIN_DONE, "init", 0);
 }
 
 /* Each commit fills one group; how many were committed, and whether the sync behind them was done. */
@@ -70,8 +91,8 @@ static bool none(void *context, size_t at)
     return false;
 }
 
-/* After a cut: all homes are of one commit, of none that was not asked for, and of the last if it was synced. */
-static void look(unsigned long at, bool synced)
+/* After a cut: all homes are of one commit, of the last if it was synced, and of none if the power went before the sync. */
+static void look(unsigned long at, unsigned long committed, bool synced)
 {
     uint8_t block[KAGUTIN_BLOCK_SIZE], whole[KAGUTIN_BLOCK_SIZE], first = 0;
     uint64_t home;
@@ -84,12 +105,12 @@ static void look(unsigned long at, bool synced)
         memset(whole, first, sizeof whole);
         check(memcmp(block, whole, sizeof block) == 0, "homes of one commit", at);
     }
-    check(first <= COMMITS && (!synced || first == COMMITS), "which commits are back", at);
+    check(first <= (committed == COMMITS ? COMMITS : 0) && (!synced || first == COMMITS), "which commits are back", at);
 }
 
 static void check_cuts(bool (*lands)(void *context, size_t at), unsigned every, const char *what)
 {
-    unsigned long at, cuts = 0;
+    unsigned long at, committed, cuts = 0;
     bool synced = false;
 
     for (at = 0; !synced; at += every, cuts++) {
@@ -97,12 +118,44 @@ static void check_cuts(bool (*lands)(void *context, size_t at), unsigned every, 
         power_on();
         check(kgt_open(&store).code == KAGUTIN_DONE, "the first opening", at);
         kgt_memory_stop_after(&medium, at);
-        work(&synced);
+        committed = work(&synced);
         kgt_memory_cut(&medium, lands, NULL);
         kgt_memory_stop_after(&medium, UINT64_MAX);
-        look(at, synced);
+        look(at, committed, synced);
     }
     printf("heads_check: %lu cuts, %s of the words since the last fence\n", cuts, what);
+}
+
+/* Driver calls of an opening, or of a format. */
+static unsigned long calls_of(bool opens)
+{
+    unsigned long before = calls;
+
+    check((opens ? kgt_open(&store).code : kgt_format(&store, scratch, sizeof scratch).code) == KAGUTIN_DONE, "anew", opens);
+    return calls - before;
+}
+
+/* The driver fails while first words wait. Of these the next opening or format knows nothing: it makes the calls of one that a start makes. */
+static void check_failures(bool opens)
+{
+    static uint8_t left[sizeof lasting];
+    unsigned long again;
+    bool synced;
+
+    memcpy(lasting, formatted, sizeof lasting);
+    power_on();
+    check(kgt_open(&store).code == KAGUTIN_DONE, "an opening", 0);
+    check(work(&synced) == COMMITS && synced, "a sync", 0);
+    check(kgt_maintain(&store, 0).code == KAGUTIN_DONE, "room", 0);
+    kgt_memory_stop_after(&medium, (uint64_t)(COMMITS / 2) * KAGUTIN_GROUP_SIZE);
+    check(work(&synced) < COMMITS && kgt_sync(&store).code == KGT_DRIVER_FAILED, "a failure", 0);
+    kgt_memory_cut(&medium, by_chance, NULL);
+    memcpy(left, lasting, sizeof left);
+    again = calls_of(opens);
+    memcpy(lasting, left, sizeof lasting);
+    power_on();
+    check(calls_of(opens) == again, "calls after a failure", again);
+    printf("heads_check: %lu driver calls of %s after a failure, as after a start\n", again, opens ? "an opening" : "a format");
 }
 
 int main(void)
@@ -113,5 +166,7 @@ int main(void)
     check_cuts(none, 41, "none");
     check_cuts(NULL, 43, "all");
     check_cuts(by_chance, 5, "any");
+    check_failures(true);
+    check_failures(false);
     return 0;
 }

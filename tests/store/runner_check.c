@@ -1,43 +1,27 @@
 /*
- * The object's runner (kgt_run) beside the proved one (crates/object_runner): on random batches, on words and on blocks, both make the same
- * driver calls with the same bytes, and refuse the same damaged batches.
+ * The object's runner (kgt_run), which asks the proved call, beside one that is
+ * written by hand (hand_runner.h): on words and on blocks both make the same
+ * driver calls with the same bytes, and refuse the same damaged batches. First
+ * over random batches, in which up to all groups wait for their first words; then
+ * over histories of calls with cuts, drivers that fail, openings and formats.
  */
-/* Clauses: [S-82, S-85] */
+/* Clauses: [S-57, S-82, S-85] */
 #include <stdio.h>
-#include <stdlib.h>
 #include <string.h>
 
-#include "kagutin_store.h"
+#include "kagutin_memory.h"
+#include "runner_trace.h"
 
-enum { GROUPS = 16, HOMES = 32, BATCHES = 20000, MOST_WAITING = 15 };
-enum { DONE, WRITE, FENCE, REFUSED };
+enum { GROUPS = 24, HOMES = 12, BATCHES = 20000, HISTORIES = 5000, CALLS = 200, NEXT = 24 };
 
-struct action {
-    uint64_t kind, area, offset, size, source, from, at, headed, stage;
-};
-
-struct action kagutin_next_action(const uint8_t *batch, size_t size, uint64_t landing, uint64_t groups, uint64_t homes,
-                                  uint64_t next, uint64_t at, uint64_t headed, uint64_t stage);
-
-/* What a runner asks of its driver, in order. */
-struct trace {
-    uint8_t bytes[1 << 16];
-    size_t size;
-};
-
-static struct trace traces[2], *trace;
-static uint8_t batch[1 << 15], log_copy[KGT_LOG_SIZE(GROUPS)];
+static uint8_t log_copy[KGT_LOG_SIZE(GROUPS)], area[KGT_HOMES_SIZE(HOMES)], state[KAGUTIN_STATE_SIZE];
+static uint8_t newest[KGT_NEWEST_SIZE(HOMES)], batch[KGT_FORMAT_SIZE(GROUPS, HOMES)];
+static struct both both;
 static size_t size;
-static uint64_t next, headed, random_state = 88172645463325252u;
-static unsigned long actions;
 
-static uint64_t random_below(uint64_t limit)
-{
-    random_state ^= random_state << 13;
-    random_state ^= random_state >> 7;
-    random_state ^= random_state << 17;
-    return random_state % limit;
-}
+/* ---- random batches ---- */
+
+static uint64_t next, fenced; /* the next group; all below this one have their first words */
 
 static void fill(uint8_t *bytes, size_t count)
 {
@@ -45,43 +29,10 @@ static void fill(uint8_t *bytes, size_t count)
         *bytes++ = (uint8_t)random_below(256);
 }
 
-static void wrong(const char *what, unsigned long at)
+static void put_number(uint8_t *bytes, uint64_t number, size_t count)
 {
-    printf("runner_check: wrong: %s, at batch %lu\n", what, at);
-    exit(1);
-}
-
-static void note(const void *bytes, size_t count)
-{
-    if (count > sizeof trace->bytes - trace->size)
-        wrong("a trace that is too long", 0);
-    memcpy(trace->bytes + trace->size, bytes, count);
-    trace->size += count;
-}
-
-static int load(void *context, enum kgt_area area, size_t at, uint8_t *bytes, size_t count)
-{
-    (void)context, (void)area, (void)at, (void)bytes, (void)count;
-    return 1;
-}
-
-static int write_area(void *context, enum kgt_area area, size_t at, const uint8_t *bytes, size_t count)
-{
-    const uint64_t call[] = {WRITE, area, at, count};
-
-    (void)context;
-    note(call, sizeof call);
-    note(bytes, count);
-    return 0;
-}
-
-static int fence(void *context)
-{
-    const uint64_t call = FENCE;
-
-    (void)context;
-    note(&call, sizeof call);
-    return 0;
+    for (; count-- > 0; number >>= 8)
+        *bytes++ = (uint8_t)number;
 }
 
 /* A record's mark and, if it has one, its place; the bytes behind them. */
@@ -90,26 +41,22 @@ static uint8_t *put_record(const char *mark, bool has_place, uint64_t place, siz
     uint8_t *bytes = batch + size;
 
     memcpy(bytes, mark, 2);
-    if (has_place) {
-        bytes[2] = (uint8_t)place;
-        bytes[3] = (uint8_t)(place >> 8);
-    }
+    if (has_place)
+        put_number(bytes + 2, place, 2);
     size += (has_place ? 4u : 2u) + count;
     return bytes + (has_place ? 4 : 2);
 }
 
-/* The next group, as the log copy has it, unless too many wait for the object's table. */
+/* The next group, as the log copy has it, unless all wait. */
 static void put_group(void)
 {
     uint8_t *group = log_copy + KGT_LOG_SIZE(next % GROUPS);
-    unsigned i;
 
-    if (next - headed >= MOST_WAITING)
+    if (next - fenced >= GROUPS)
         return;
     fill(group, KAGUTIN_GROUP_SIZE);
     memcpy(group, "\x50\x47", 2);
-    for (i = 0; i < 6; i++)
-        group[2 + i] = (uint8_t)(next >> 8 * i);
+    put_number(group + 2, next, 6);
     memcpy(put_record("GW", true, next % GROUPS, KAGUTIN_GROUP_SIZE), group, KAGUTIN_GROUP_SIZE);
     next++;
 }
@@ -132,6 +79,7 @@ static void put_header(bool marked)
 static void put_fence(void)
 {
     put_record("FN", false, 0, 0);
+    fenced = next;
 }
 
 /* As an opening or a format has it: a header, every group blank. */
@@ -151,21 +99,21 @@ static void put_opening(bool marked)
 static void put_batch(void)
 {
     size = 0;
-    switch (random_below(6)) {
-    case 0: put_group(); break;
-    case 1:
+    switch (random_below(24)) {
+    default: put_group(); break;
+    case 0:
         put_group();
         put_fence();
         break;
-    case 2:
+    case 1:
         put_homes(random_below(9));
         put_fence();
         break;
-    case 3:
+    case 2:
         put_header(true);
         put_fence();
         break;
-    case 4:
+    case 3:
         put_group();
         put_homes(random_below(4));
         put_group();
@@ -173,8 +121,9 @@ static void put_batch(void)
         put_header(true);
         put_fence();
         break;
-    default: put_opening(random_below(2) != 0); break;
+    case 4: put_opening(random_below(2) != 0); break;
     }
+    put_number(state + NEXT, next, 8);
 }
 
 /* One bit, or the end, of one batch in fifty. */
@@ -189,67 +138,189 @@ static bool damage(void)
     return true;
 }
 
-/* The proved runner's actions on the batch, carried out. True: all of it was handed out. */
-static bool run_proved(uint64_t landing)
+/* As behind an opening: no first word waits. */
+static void begin_batches(enum kgt_landing landing)
 {
-    struct action a = {0};
-
-    for (a.headed = headed;; actions++) {
-        a = kagutin_next_action(batch, size, landing, GROUPS, HOMES, next, a.at, a.headed, a.stage);
-        if (a.kind == WRITE)
-            write_area(NULL, (enum kgt_area)a.area, a.offset, (a.source == 0 ? batch : log_copy) + a.from, a.size);
-        else if (a.kind == FENCE)
-            fence(NULL);
-        else
-            break;
-    }
-    headed = a.headed;
-    return a.kind == DONE;
+    both_init(&both, NULL, landing, log_copy, state, GROUPS, HOMES);
+    both.proved.headed = fenced = next;
 }
 
-/* A cursor that no batch has: beyond its end, with first words beyond the next group, at a step that there is not. */
-static bool refuses(uint64_t at, uint64_t beyond, uint64_t stage)
+/* Behind a damaged batch both begin anew: first words in it may be others than the copy has. */
+static void check_batches(enum kgt_landing landing)
 {
-    return kagutin_next_action(batch, size, 0, GROUPS, HOMES, next, at, next + beyond, stage).kind == REFUSED;
-}
-
-static void compare(enum kgt_landing landing)
-{
-    const struct kgt_driver driver = {NULL, load, write_area, fence, landing};
-    struct kgt_runner runner;
     unsigned long i;
 
-    kgt_runner_init(&runner, driver, GROUPS, HOMES);
-    next = headed = 0;
+    begin_batches(landing);
     for (i = 0; i < BATCHES; i++) {
-        bool damaged, taken;
+        bool damaged;
 
         put_batch();
         damaged = damage();
-        traces[0].size = traces[1].size = 0;
-        trace = &traces[0];
-        taken = kgt_run(&runner, batch, size) == 0;
-        trace = &traces[1];
-        if (run_proved(landing) != taken)
-            wrong("one runner refuses a batch", i);
-        if (!damaged
-            && (!taken || traces[0].size != traces[1].size || memcmp(traces[0].bytes, traces[1].bytes, traces[0].size) != 0))
-            wrong("other driver calls", i);
-        if (!refuses(size + 1, 0, 0) || !refuses(0, 1, 0) || !refuses(0, 0, 3))
-            wrong("a cursor that no batch has is taken", i);
-        if (damaged) { /* which first words wait may differ then: both begin anew */
-            kgt_runner_init(&runner, driver, GROUPS, HOMES);
-            headed = next;
-        }
+        if (both_run(&both, batch, size, UINT64_MAX, i) != 0 && !damaged)
+            wrong("a batch is refused", i);
+        if (damaged)
+            begin_batches(landing);
+        else
+            both_same(i);
+    }
+}
+
+/* ---- what is no batch ---- */
+
+/* Refused with the cursor as it was asked, and nothing else. */
+static void refused(const char *mark, uint64_t place, size_t count, uint64_t landing, uint64_t slots, uint64_t at)
+{
+    struct kagutin_action now, none = {KAGUTIN_REFUSED, 0, 0, 0, 0, 0, 0, 5, 0};
+
+    memset(batch, 0, sizeof batch);
+    memcpy(batch, mark, 2);
+    put_number(batch + 2, place, 2);
+    none.at = at;
+    now = kagutin_next_action(batch, count, landing, slots, HOMES, 7, at, 5, 0);
+    if (memcmp(&now, &none, sizeof now) != 0)
+        wrong("what is no batch is handed out", (unsigned long)count);
+}
+
+static void check_refusals(void)
+{
+    static const char *const marks[] = {"GX", "HX", "KX", "FX", "XW", "XN"};
+    unsigned i;
+
+    for (i = 0; i < sizeof marks / sizeof marks[0]; i++)
+        refused(marks[i], 0, KAGUTIN_GW_SIZE, KGT_LANDS_WORDS, GROUPS, 0);
+    refused("FN", 0, KAGUTIN_FN_SIZE, 2, GROUPS, 0);
+    refused("FN", 0, KAGUTIN_FN_SIZE, KGT_LANDS_WORDS, 0, 0);
+    refused("FN", 0, KAGUTIN_FN_SIZE, KGT_LANDS_WORDS, KAGUTIN_MAX_GROUPS + 1, 0);
+    refused("FN", 0, KAGUTIN_FN_SIZE, KGT_LANDS_WORDS, GROUPS, 3);
+    refused("FN", 0, 1, KGT_LANDS_WORDS, GROUPS, 0);
+    refused("GW", 0, KAGUTIN_GW_SIZE - 1, KGT_LANDS_WORDS, GROUPS, 0);
+    refused("GW", GROUPS, KAGUTIN_GW_SIZE, KGT_LANDS_WORDS, GROUPS, 0);
+    refused("HW", 0, KAGUTIN_HW_SIZE - 1, KGT_LANDS_BLOCKS, GROUPS, 0);
+    refused("HW", HOMES, KAGUTIN_HW_SIZE, KGT_LANDS_BLOCKS, GROUPS, 0);
+    refused("KW", 0, KAGUTIN_KW_SIZE - 1, KGT_LANDS_BLOCKS, GROUPS, 0);
+    if (kagutin_next_action(batch, 2, KGT_LANDS_WORDS, GROUPS, HOMES, 7, 2, 8, 0).kind != KAGUTIN_REFUSED
+        || kagutin_next_action(batch, 2, KGT_LANDS_WORDS, GROUPS, HOMES, 7, 2, 5, 3).kind != KAGUTIN_REFUSED)
+        wrong("a cursor that no batch has", 0);
+    if (kagutin_next_action(batch, 2, KGT_LANDS_WORDS, GROUPS, HOMES, 7, 2, 5, 0).kind != KAGUTIN_ALL_DONE)
+        wrong("a batch that is done", 0);
+}
+
+/* ---- histories ---- */
+
+#define AREAS log_copy, KGT_LOG_SIZE(groups), area, sizeof area
+#define STATE state, sizeof state
+#define NEWEST newest, sizeof newest
+#define BATCH batch, sizeof batch
+
+static uint8_t lasting[KGT_LOG_SIZE(GROUPS) + KGT_HOMES_SIZE(HOMES)], written[sizeof lasting];
+static struct kgt_memory medium;
+static struct kgt_driver driver;
+static size_t groups;
+static unsigned long failures, openings;
+
+static bool by_chance(void *context, size_t at)
+{
+    (void)context, (void)at;
+    return random_below(4) != 0;
+}
+
+/* Runs the batch of a done call; one in a hundred meets a driver's call that fails. */
+static bool run(struct kagutin_reply reply, unsigned long at)
+{
+    uint64_t fails = random_below(100) == 0 ? random_below(6) : UINT64_MAX;
+    bool done;
+
+    if (reply.code != KAGUTIN_DONE)
+        return true;
+    done = both_run(&both, batch, (size_t)reply.size, fails, at) == 0;
+    both_same(at);
+    failures += !done;
+    return done;
+}
+
+static void begin_anew(void)
+{
+    both_init(&both, &driver, driver.landing, log_copy, state, groups, HOMES);
+}
+
+/* Until an opening is done: after a cut, or a failure, in which any words or blocks since the last fence arrive. */
+static void open_again(unsigned long at)
+{
+    struct kagutin_reply reply;
+
+    do {
+        kgt_memory_cut(&medium, by_chance, NULL);
+        begin_anew();
+        if (driver.load(driver.context, KGT_LOG, 0, log_copy, KGT_LOG_SIZE(groups)) != 0
+            || driver.load(driver.context, KGT_HOMES, 0, area, sizeof area) != 0)
+            wrong("a load", at);
+        reply = kagutin_open(AREAS, STATE, NEWEST, BATCH);
+        if (reply.code != KAGUTIN_DONE)
+            wrong("an opening", at);
+        openings++;
+    } while (!run(reply, at));
+}
+
+static void format(unsigned long at)
+{
+    do
+        begin_anew();
+    while (!run(kagutin_format(AREAS, BATCH), at));
+}
+
+/* One call; its batch is run. False: the driver failed. */
+static bool call(unsigned long at)
+{
+    static const uint8_t block[KAGUTIN_BLOCK_SIZE] = {7};
+    uint64_t writer = random_below(3), home = 1 + random_below(7), choice = random_below(40);
+
+    if (choice < 8)
+        return run(kagutin_begin(AREAS, STATE, writer), at);
+    if (choice < 24)
+        return run(kagutin_store(AREAS, STATE, block, sizeof block, BATCH, writer, home), at);
+    if (choice < 32)
+        return run(kagutin_commit(AREAS, STATE, NEWEST, BATCH, writer), at);
+    switch (choice) {
+    case 32: return run(kagutin_abort(AREAS, STATE, writer), at);
+    case 33: return run(kagutin_flush(AREAS, STATE, BATCH), at) && run(kagutin_confirm(AREAS, STATE), at);
+    case 34: return run(kagutin_settle(AREAS, STATE, BATCH), at);
+    case 35: return run(kagutin_begin_round(AREAS, STATE), at) && run(kagutin_step_round(AREAS, STATE, BATCH, 2), at);
+    case 36: return run(kagutin_step_round(AREAS, STATE, BATCH, 3), at);
+    case 37:
+    case 38: return run(kagutin_trim(AREAS, STATE, NEWEST, BATCH), at);
+    default: return random_below(8) != 0; /* a cut */
+    }
+}
+
+static void check_histories(enum kgt_landing landing)
+{
+    unsigned long history, i;
+
+    for (history = 0; history < HISTORIES; history++) {
+        groups = 4 + (size_t)random_below(GROUPS - 3);
+        memset(lasting, 0xA5, sizeof lasting);
+        kgt_memory_init(&medium, lasting, written, groups, HOMES);
         if (landing == KGT_LANDS_BLOCKS)
-            headed = next; /* no first word waits, so that groups go on being put */
+            kgt_memory_keep_blocks(&medium);
+        driver = kgt_memory_driver(&medium);
+        format(history);
+        open_again(history);
+        for (i = 0; i < CALLS; i++)
+            if (!call(history))
+                open_again(history);
     }
 }
 
 int main(void)
 {
-    compare(KGT_LANDS_WORDS);
-    compare(KGT_LANDS_BLOCKS);
-    printf("runner_check: the proved runner and the object's make the same driver calls, %lu actions\n", actions);
+    check_refusals();
+    check_batches(KGT_LANDS_WORDS);
+    check_batches(KGT_LANDS_BLOCKS);
+    printf("runner_check: random batches: the same driver calls, %lu, of them %lu first words\n", traced_calls, traced_words);
+    traced_calls = traced_words = 0;
+    check_histories(KGT_LANDS_WORDS);
+    check_histories(KGT_LANDS_BLOCKS);
+    printf("runner_check: %d histories: the same driver calls, %lu, of them %lu first words; %lu openings, %lu failures\n",
+           2 * HISTORIES, traced_calls, traced_words, openings, failures);
     return 0;
 }

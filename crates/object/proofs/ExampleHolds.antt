@@ -29,7 +29,7 @@ use Rattle.object.specs.Alike.{hole, rewrites, Alike, Tearing, plain, to
 use Rattle.object.specs.TornClaims.{LiveTorn, AnswersThroughTorn}
 use Rattle.object.specs.Order.{motions, parted, body, head, headsOut, wipe, moves, moved, Left, Allowed as AllowedCut}
 use Rattle.object.specs.Runner.{Doing, calls, cuts, Carried, AllRight}
-use Rattle.object.specs.Example.{unformatted, openAgain, alone, asDoings, third, other, all, history, opens, givesAlone, answered, upTo, behind, carriedOut, runsTo, runsAsListed, Goes, twoCommits, tornMemory, asTearings, tearings, slotsAlike, numbersBelow, homesAlike, isAlike, tearsTo, wholeMemory, damaged, healing, opensWith}
+use Rattle.object.specs.Example.{unformatted, openAgain, alone, asDoings, third, other, all, history, opens, givesAlone, answered, upTo, behind, carriedOut, runsTo, runsAsListed, Goes, twoCommits, tornMemory, asTearings, tearings, slotsAlike, numbersBelow, homesAlike, isAlike, tearsTo, wholeAfter, damaged, healing, opensWith}
 use Rattle.object.proofs.TornHolds.{demand-torn}
 use Rattle.object.proofs.TornClaims.{demand2-torn, answers-torn-hold}
 use Rattle.object.proofs.WordsHold.{words-enough}
@@ -242,7 +242,7 @@ module _ (G D : ℕ) (a b : Memory) where
         homesOf = all-below HomeAlike (homesAlike G D a b) D (unfold homesAlike in refl) home-alike (k₄ .1);
       }
 
-met-torn : (G : ℕ) (ts : List Tearing) (w : World) → tearsTo G w ts ≡ true → AllTearingsAllowed G w ts
+pub met-torn : (G : ℕ) (ts : List Tearing) (w : World) → tearsTo G w ts ≡ true → AllTearingsAllowed G w ts
 unfolding tearsTo tears
 met-torn G [] w h = tt
 met-torn G (plain e ∷ ts) w h =
@@ -261,7 +261,7 @@ met-torn G (torn passed chosen left ∷ ts) w h =
 
 -- a name that unfolds every definition below
 unfoldable pub computed : Bool
-unfolding all-definitions unitOf chopLog chopArea chop chopAll writes fences-of loses hole rewrites withMemory tears motions parted body head headsOut wipe moves moved unformatted openAgain alone asDoings third other all history opens givesAlone answered upTo behind carriedOut runsTo runsAsListed twoCommits tornMemory asTearings tearings slotsAlike numbersBelow homesAlike isAlike tearsTo wholeMemory damaged healing opensWith events
+unfolding all-definitions unitOf chopLog chopArea chop chopAll writes fences-of loses hole rewrites withMemory tears motions parted body head headsOut wipe moves moved unformatted openAgain alone asDoings third other all history opens givesAlone answered upTo behind carriedOut runsTo runsAsListed twoCommits tornMemory asTearings tearings slotsAlike numbersBelow homesAlike isAlike tearsTo wholeAfter damaged healing opensWith events
 computed = true
 
 format-done : formatCall unformatted .code ≡ 0
@@ -290,7 +290,7 @@ unfolding computed
 torn-as-listed = refl
 
 -- torn, the memory is not one that whole blocks leave
-pub torn-apart : same (tornMemory .log) (wholeMemory .log) ≡ false
+pub torn-apart : same (tornMemory .log) (wholeAfter 4 twoCommits .log) ≡ false
 unfolding computed
 torn-apart = refl
 

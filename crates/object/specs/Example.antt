@@ -15,6 +15,7 @@ use Rattle.model.specs.History.{Call, opening, confirm, begin, store, commit, f
 use Rattle.model.specs.DemandThree.{Crashed, Holds}
 use Rattle.model.specs.examples.Trials.{room, lane, fill, answerOf}
 use Rattle.model.specs.examples.Witnesses.{allowed, filledWith}
+use Rattle.theorems.specs.Hidden.{firstWriters, nextWriters, firstOpening}
 use Rattle.object.specs.Medium.{Grain, words}
 use Rattle.object.specs.Alike.{hole, rewrites, Tearing, plain, torn, tears}
 use Rattle.object.specs.Order.{motions, leftOf, Left, Completed}
@@ -161,9 +162,28 @@ tearsTo groups w (torn passed chosen left ∷ ts) =
     leb (w .passed) passed && leb passed (fences (w .pending))
     && (isAlike groups (w .homes) left (persist passed chosen (w .pending) (w .memory)) && tearsTo groups (tears w (torn passed chosen left)) ts)
 
--- the memory that whole blocks would have left is another
-unfoldable pub wholeMemory : Memory
-wholeMemory = let w : World = after (emptyStore 4 4) (events twoCommits) in persist 4 (λ i. false) (w .pending) (w .memory)
+-- Isolation (D 12): a list of rights is committed, with home 3 (crates/theorems/specs/Hidden), and every other word of the next commit's body is torn. After the
+-- opening that brings the list back home 4, which writer 1 may not read, gets byte a, and then all are at work.
+unfoldable pub ruled : List Call
+ruled =
+    firstOpening ∷ begin 0 ∷ store 0 3 (fill 5) room ∷ store 0 8 firstWriters room ∷ store 0 9 nextWriters room ∷ commit 0 room ∷ flush room
+    ∷ alone 3 30
+
+unfoldable pub ruledMemory : Memory
+ruledMemory = Left words (after (emptyStore 4 12) (events ruled)) 13 other
+
+unfoldable pub ruledTorn : List Tearing
+ruledTorn = asTearings ruled ++ (torn 4 (λ i. false) ruledMemory ∷ plain (call firstOpening) ∷ [])
+
+unfoldable pub hides : ℕ → List Call
+hides a = begin 0 ∷ store 0 4 (fill a) room ∷ commit 0 room ∷ []
+
+unfoldable pub ruledThen : ℕ → List Tearing
+ruledThen a = ruledTorn ++ asTearings (hides a)
+
+-- the memories that whole blocks would have left are others
+unfoldable pub wholeAfter : ℕ → List Call → Memory
+wholeAfter homes cs = let w : World = after (emptyStore 4 homes) (events cs) in persist 4 (λ i. false) (w .pending) (w .memory)
 
 -- A format over a store whose header is refused for a damage behind its first words, cut after two motions: a word of zeros that landed on the damage alone
 -- would heal it, and the old store would open.

@@ -6,6 +6,8 @@ pub mod AlikeReplies
 -- Stores that are alike but for bytes in hidden homes stay so over calls that are alike and answered alike.
 pub mod AlikeFollows
 -- Two histories whose calls are alike, from stores that are alike but for bytes in homes that a writer may not read: every call is answered the same, and the writer's reads give the same blocks.
+-- For all worlds that are faithful to their abstract stores, and then for those that a history has reached.
+pub mod AlikeFaithful
 pub mod AlikeHistories
 -- Calls on several homes that are alike, from stores that are alike but for bytes in hidden homes: they answer the same, and leave stores alike.
 pub mod AlikeActs

@@ -3,7 +3,7 @@
 
 #include "kagutin_all.h"
 
-#define OBJECT_SIZE 640 /* Object of src/ffi.rs */
+#define OBJECT_SIZE 256 /* Object of src/ffi.rs */
 
 typedef char object_fits[sizeof(struct kagutin) <= OBJECT_SIZE ? 1 : -1];
 
@@ -20,6 +20,8 @@ void kagutin_rust_lend(struct kagutin *store, void *context, uint8_t *memory)
     store->state = store->area + store->area_size;
     store->newest = store->state + KAGUTIN_STATE_SIZE;
     store->batch = store->newest + store->newest_size;
+    store->runner.log = store->log;
+    store->runner.state = store->state;
 }
 
 static int none(void *context)
@@ -53,7 +55,8 @@ bool kagutin_rust_lent_right(void)
     kgt_init(&lent, memory, sizeof memory, 5, 9, driver);
     kagutin_rust_lend(&lent, other, other);
     return made.runner.driver.context == lent.runner.driver.context && made.log == lent.log && made.area == lent.area
-        && made.state == lent.state && made.newest == lent.newest && made.batch == lent.batch;
+        && made.state == lent.state && made.newest == lent.newest && made.batch == lent.batch
+        && made.runner.log == lent.runner.log && made.runner.state == lent.runner.state;
 }
 
 /* As `layout` of src/ffi.rs lists them. */

@@ -1,8 +1,18 @@
 /* docs/USING.md: the bare calls, with run and load on a driver. */
 #include "tries.h"
 
+static bool run(const uint8_t *records, uint64_t size);
+static bool load(uint8_t *log_bytes, uint8_t *home_bytes);
+
+#include "using_bare.snippet"
+
 static struct kgt_runner runner;
 static bool run_failed;
+
+static void run_on(struct kgt_driver medium)
+{
+    kgt_runner_init(&runner, medium, log_area, state, TRY_GROUPS, TRY_HOMES);
+}
 
 static bool run(const uint8_t *records, uint64_t size)
 {
@@ -17,11 +27,9 @@ static bool load(uint8_t *log_bytes, uint8_t *home_bytes)
 
     run_failed = medium->load(medium->context, KGT_LOG, 0, log_bytes, KGT_LOG_SIZE(TRY_GROUPS)) != 0
         || medium->load(medium->context, KGT_HOMES, 0, home_bytes, KGT_HOMES_SIZE(TRY_HOMES)) != 0;
-    runner.waiting = 0;
+    run_on(runner.driver);
     return !run_failed;
 }
-
-#include "using_bare.snippet"
 
 static uint8_t before[KAGUTIN_BLOCK_SIZE], after[KAGUTIN_BLOCK_SIZE];
 
@@ -55,7 +63,7 @@ static bool in_keep(const struct try_case *now)
 {
     bool kept, met;
 
-    kgt_runner_init(&runner, try_medium(now->landing), TRY_GROUPS, TRY_HOMES);
+    run_on(try_medium(now->landing));
     try_check(start() && keep(before), "a good driver");
     fill_log(now->log);
     try_arm(now);
@@ -75,8 +83,9 @@ static bool in_format(const struct try_case *now)
 {
     bool formatted, kept, met;
 
-    kgt_runner_init(&runner, try_medium(now->landing), TRY_GROUPS, TRY_HOMES);
+    run_on(try_medium(now->landing));
     try_check(start() && keep(before), "a good driver");
+    run_on(runner.driver);
     try_arm(now);
     formatted = format();
     kept = formatted && start() && keep(after);
@@ -85,6 +94,7 @@ static bool in_format(const struct try_case *now)
     if (!formatted) {
         try_cut(now->lands);
         run_failed = false;
+        run_on(runner.driver);
         kept = format() && start() && keep(after);
         try_check(kept, "a format is done anew");
     }
@@ -97,7 +107,7 @@ static bool in_start(const struct try_case *now)
 {
     bool kept, met;
 
-    kgt_runner_init(&runner, try_medium(now->landing), TRY_GROUPS, TRY_HOMES);
+    run_on(try_medium(now->landing));
     try_check(start() && keep(before), "a good driver");
     try_cut(now->lands);
     try_arm(now);

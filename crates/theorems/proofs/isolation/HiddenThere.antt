@@ -27,7 +27,7 @@ use Rattle.theorems.proofs.isolation.IsolationHolds.{isolation}
 -- ---- what is left to compute
 
 -- calls without an opening are allowed once one is done
-noOpening : List Call → Bool
+unfoldable pub noOpening : List Call → Bool
 noOpening [] = true
 noOpening (c ∷ cs) = not (isOpening c) && noOpening cs
 
@@ -35,7 +35,7 @@ none-first : (a b : Bool) → (not a && b) ≡ true → (a ≡ false) × (b ≡ 
 none-first true b e = absurd (false≢true e)
 none-first false b e = (refl, e)
 
-calm : (cs : List Call) (w : World) → w .ready ≡ true → noOpening cs ≡ true → AllAllowed w (calls cs)
+pub calm : (cs : List Call) (w : World) → w .ready ≡ true → noOpening cs ≡ true → AllAllowed w (calls cs)
 unfolding calls noOpening
 calm [] w r n = tt
 calm (c ∷ cs) w r n =
@@ -43,12 +43,12 @@ calm (c ∷ cs) w r n =
     (k .0 ∙ sym (ap not r), calm cs (step w (call c)) (ready-on w c r) (k .1))
 
 -- stores stay alike where the answers are the same
-abbrev SameReplies : World → World → List Call → List Call → Type 0
+abbrev pub SameReplies : World → World → List Call → List Call → Type 0
 SameReplies w v [] ds = Unit {0}
 SameReplies w v (c ∷ cs) [] = Unit {0}
 SameReplies w v (c ∷ cs) (e ∷ ds) = (replyOf (ends w c) ≡ replyOf (ends v e)) × SameReplies (step w (call c)) (step v (call e)) cs ds
 
-alike-along : (hidden : ℕ → Bool) (cs ds : List Call) (w v : World) (s t : Store) → noOpening cs ≡ true → SameReplies w v cs ds → Each (CallAlike hidden) cs ds
+pub alike-along : (hidden : ℕ → Bool) (cs ds : List Call) (w v : World) (s t : Store) → noOpening cs ≡ true → SameReplies w v cs ds → Each (CallAlike hidden) cs ds
     → StoreAlike hidden s t → StoreAlike hidden (followed s w (calls cs)) (followed t v (calls ds))
 unfolding calls followed noOpening
 alike-along hidden [] [] w v s t n q both a = a
@@ -125,7 +125,7 @@ listing-alike : Each (CallAlike fourth) (listing 1) (listing 101)
 unfolding listing fourth fill
 listing-alike = more equal (more equal (more (stored refl refl) (more equal (more equal (more equal both)))))
 
-work-alike : Each (CallAlike fourth) (bothAtWork 2) (bothAtWork 102)
+pub work-alike : Each (CallAlike fourth) (bothAtWork 2) (bothAtWork 102)
 unfolding bothAtWork fourth fill
 work-alike =
     more equal (more equal (more equal (more equal (more (stored refl refl) (more equal (more equal (more equal (more equal (more equal (more equal (more equal (more equal both))))))))))))
