@@ -11,7 +11,8 @@
 # make rtos       the RTOS example, eight tasks on a store, on an emulated Cortex-M board
 # make play       random histories on the reference implementation alone
 # make bench      instructions and times of each call against the reference implementation; other stores, if installed
-# make bench-docs tables of docs/PERFORMANCE.md and docs/ring-cost.svg from the last bench
+# make bench-worst the worst cases of every call alone, which make bench counts too; on the emulated boards where they are installed
+# make bench-docs tables of docs/PERFORMANCE.md, docs/ring-cost.svg and the bounds of tests/worst from the last bench
 # make install    program, manual pages, headers, libraries and pkg-config files, under DESTDIR and PREFIX; make uninstall takes them away; make arduino a library for it
 # make debian-check the Debian packages built, judged by lintian and used; make chroot-check README's steps on a bare Debian 12 and 13, as root; both long
 # make kagutin    the program, target/c/kagutin, and links to it by the names of the older programs: inspect, wear, bands, gauges, inflow, station
@@ -91,11 +92,14 @@ rust/target/release/bench: $(ARCHIVES) reference
 
 bench: rust/target/release/bench
 	rust/target/release/bench --seed $(SEED)
+	@$(MAKE) --no-print-directory bench-worst
 	@if [ -x rust/bench/peers/run.sh ]; then LIB=$(ARCHIVE) rust/bench/peers/run.sh; fi
 
-bench-docs:
-	python3 rust/bench/plot.py target/bench/bench.tsv docs/ring-cost.svg
-	python3 rust/bench/report.py target/bench/bench.tsv target/bench/peers.tsv docs/PERFORMANCE.md
+bench-docs: bench-worst-docs
+	@if [ -f target/bench/bench.tsv ]; then \
+	    python3 rust/bench/plot.py target/bench/bench.tsv docs/ring-cost.svg && \
+	    python3 rust/bench/report.py target/bench/bench.tsv target/bench/peers.tsv docs/PERFORMANCE.md; \
+	else echo "bench-docs: the worst cases alone; make bench has not run"; fi
 
 # For the edit loop: what needs no prover and little time.
 quick: all c-quick generator-quick

@@ -5,7 +5,7 @@
 # generator-check tests of the generator
 # port-compare    builds of it by gcc and clang, with sanitizers too, against the archive and the reference implementation: long
 # port-docs       tables of the C file in docs/PERFORMANCE.md
-# board-check     one emulated board and the RTOS example, where the packages are there
+# board-check     one emulated board with the worst cases on it, and the RTOS example, where the packages are there
 # arm             trials and recorded calls with cuts on emulated boards (Cortex-M0+, M4, M33), Arm, RISC-V and a big-endian machine
 
 # Crates whose extern "C" functions are the library, the header that declares them, and the structs of their results.
@@ -205,5 +205,5 @@ port-docs: $(COSTS) $(BENCHED:%=$(PORT_OUT)/%/bench.tsv)
 
 # What the gate runs: one board, where the packages are there.
 board-check:
-	@if command -v arm-none-eabi-gcc > /dev/null && command -v qemu-system-arm > /dev/null; then $(MAKE) --no-print-directory -s on-m4 object-stack rtos-run; \
+	@if command -v arm-none-eabi-gcc > /dev/null && command -v qemu-system-arm > /dev/null; then $(MAKE) --no-print-directory -s on-m4 object-stack rtos-run worst-board-check; \
 	else echo "skipped the emulated board: no arm-none-eabi-gcc or qemu-system-arm (port/packages.sh installs them)"; fi
