@@ -11,7 +11,7 @@
 # make rtos       the RTOS example, eight tasks on a store, on an emulated Cortex-M board
 # make play       random histories on the reference implementation alone
 # make bench      instructions and times of each call against the reference implementation; other stores, if installed
-# make bench-worst the worst cases of every call alone, which make bench counts too; on the emulated boards where they are installed
+# make bench-worst the worst cases of every call, on the emulated boards too, and make bench-peers the other stores: parts of make bench that need no prover
 # make bench-docs tables of docs/PERFORMANCE.md, docs/ring-cost.svg and the bounds of tests/worst from the last bench
 # make install    program, manual pages, headers, libraries and pkg-config files, under DESTDIR and PREFIX; make uninstall takes them away; make arduino a library for it
 # make debian-check the Debian packages built, judged by lintian and used; make chroot-check README's steps on a bare Debian 12 and 13, as root; both long
@@ -45,7 +45,7 @@ INFLOW_ARCHIVE = target/staticlib/libinflow.a
 ARCHIVES = $(ARCHIVE) $(GAUGES_ARCHIVE) $(INFLOW_ARCHIVE)
 RUNNER_ARCHIVE = target/staticlib/libobject_runner.a
 
-.PHONY: all help run quick test test-library test-compared test-c compare play bench bench-docs reference library clean
+.PHONY: all help run quick test test-library test-compared test-c compare play bench bench-peers bench-docs reference library clean
 
 # The toolchain that this repository was checked with, as 'rt version' prints it.
 RATTLE = rattle-kit-5b-plain logic 097e4c862dff5811
@@ -92,8 +92,11 @@ rust/target/release/bench: $(ARCHIVES) reference
 
 bench: rust/target/release/bench
 	rust/target/release/bench --seed $(SEED)
-	@$(MAKE) --no-print-directory bench-worst
-	@if [ -x rust/bench/peers/run.sh ]; then LIB=$(ARCHIVE) rust/bench/peers/run.sh; fi
+	@$(MAKE) --no-print-directory bench-worst bench-peers
+
+# Other stores, beside the C file, which needs no prover.
+bench-peers: $(LIB)
+	@if [ -x rust/bench/peers/run.sh ]; then LIB=$(LIB) rust/bench/peers/run.sh; fi
 
 # What was measured goes into the documents; what was not stays.
 bench-docs: bench-worst-docs

@@ -5,7 +5,7 @@
 # peers-runs.tsv; if it fails there is neither. A peer that is not installed is
 # skipped; packages.sh installs them. Without valgrind no instructions are counted.
 #
-#   LIB     the library, target/staticlib/libkagutin.a by default
+#   LIB     the library, target/c/libkagutin.a by default
 #   FOLDER  a folder on a memory file system, /dev/shm by default
 #   ROUNDS  how often the stores take turns, 7 by default
 set -eu
@@ -13,7 +13,7 @@ cd "$(dirname "$0")/../../.."
 
 here=rust/bench/peers
 results=target/bench
-LIB=${LIB:-target/staticlib/libkagutin.a}
+LIB=${LIB:-target/c/libkagutin.a}
 CC=${CC:-cc}
 FOLDER=${FOLDER:-/dev/shm}
 ROUNDS=${ROUNDS:-7}
@@ -139,7 +139,7 @@ flush_instruction()
 }
 
 [ "$(uname -sm)" = "Linux x86_64" ] || { echo "peers: skipped: cache lines are flushed as on x86-64 under Linux"; exit 0; }
-[ -f "$LIB" ] || give_up "no $LIB; 'make library' makes it"
+[ -f "$LIB" ] || give_up "no $LIB; 'make bench-peers' makes it"
 [ "$(stat -f -c %T "$FOLDER")" = tmpfs ] || give_up "$FOLDER is not on a memory file system; set FOLDER to one that is"
 mkdir -p "$results"
 rm -f "$results/peers.tsv" "$results/peers-runs.tsv"
