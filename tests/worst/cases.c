@@ -29,7 +29,7 @@ bool worst_wanted(const struct worst_log *log, const struct worst_call *call, co
     return *cases != NULL;
 }
 
-int worst_go(int count, char **words, worst_each *each)
+int worst_go(int count, char **words, const struct worst_log *logs, size_t log_count, worst_each *each)
 {
     size_t i, groups, homes;
 
@@ -37,8 +37,8 @@ int worst_go(int count, char **words, worst_each *each)
         return 2;
     groups = strtoul(words[1], NULL, 10);
     homes = strtoul(words[2], NULL, 10);
-    for (i = 0; i < worst_log_count; i++) {
-        const struct worst_log *log = &worst_logs[i];
+    for (i = 0; i < log_count; i++) {
+        const struct worst_log *log = &logs[i];
 
         if (!each(log, words + 3, false))
             continue;

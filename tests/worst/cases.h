@@ -13,6 +13,6 @@ bool worst_wanted(const struct worst_log *log, const struct worst_call *call, co
 void worst_count(const struct worst_log *log, const struct worst_call *call, const char *kind);
 
 /* Goes over the logs by the program's words GROUPS HOMES [CASE..]; returns its status. */
-int worst_go(int count, char **words, worst_each *each);
+int worst_go(int count, char **words, const struct worst_log *logs, size_t log_count, worst_each *each);
 
 #endif

@@ -126,29 +126,44 @@ static uint64_t owners_first(void)
     return worst_number(STATE_WRITERS + STATE_WRITER_FIRST) - PLACES * worst_number(STATE_START);
 }
 
-/* Tags with the owner's distance that are no entries, for the first so many homes that nobody stores to. */
-static void look_alike(uint64_t homes, uint64_t more)
+/* Tags with the owner's distance that are no entries, for so many homes from this one on. */
+static void look_alike(uint64_t home, uint64_t homes, uint64_t more)
 {
     uint64_t i, first = owners_first();
 
     for (i = first + 1; i + 1 < places(); i++)
-        put_number(tag_at(i), tag_of(worst_untouched() + i % homes, i - first) | more);
+        put_number(tag_at(i), tag_of(home + i % homes, i - first) | more);
 }
 
 void sought_unused(void)
 {
-    look_alike(1, 0);
+    look_alike(worst_untouched(), 1, 0);
 }
 
 /* Closing with number 0, which reads as nothing. */
 void sought_closing(void)
 {
-    look_alike(1, CLOSING);
+    look_alike(worst_untouched(), 1, CLOSING);
 }
 
 void near_misses(void)
 {
-    look_alike(CHAIN, CLOSING);
+    look_alike(worst_untouched(), CHAIN, CLOSING);
+}
+
+void near_bands(void)
+{
+    look_alike(12, 3, CLOSING);
+}
+
+void near_alarms(void)
+{
+    look_alike(24, 6, CLOSING);
+}
+
+void near_pumps(void)
+{
+    look_alike(16, 8, CLOSING);
 }
 
 /* The last writer's first entry lies past the next position. */

@@ -25,5 +25,5 @@ static bool each_call(const struct worst_log *log, char **cases, bool make)
 
 int main(int count, char **words)
 {
-    return worst_go(count, words, each_call);
+    return worst_go(count, words, worst_logs, worst_log_count, each_call);
 }

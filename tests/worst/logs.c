@@ -6,33 +6,6 @@
 
 enum { STATE_FILLED = 32, WORD = 64 /* homes */, SMALL_HOMES = 4096 };
 
-/* How the log is filled: commits by writers in turn; eight transactions that overlap all the way; the owner's open one; another's
-   open one; transactions that are aborted, and some commits. */
-enum { COMMITS, OVERLAP, OWN, OTHERS, DROPPED };
-
-/* For which homes: all, in turn; those of one word; each in another word than the last; those from 4,096 on; two. */
-enum { SPREAD, ONE_WORD, APART, HIGH, TWO };
-
-enum {
-    WRAPPED = 1, /* the log begins in the middle of the ring */
-    LISTED = 2,  /* a list of rights is committed in it */
-    FENCED = 4,
-    HALF = 8, /* settled when it was half full */
-    SETTLED = 16,
-    OWNED = 32,    /* the owner's transaction is open, since the first position */
-    PROMISED = 64, /* it has places promised */
-    ACTIVE = 128,  /* so are those of the other writers */
-    IN_ROUND = 256,
-    GROUP_ONE = 512, /* since the second group */
-    LIST_OWN = 1024, /* the owner stores a list, too */
-    REVERSED = 2048, /* who began last commits first */
-    ACROSS = 4096    /* a transaction lies across a round that is under way, and the owner's fills the rest */
-};
-
-#define SINCE_ONE (FENCED | SETTLED | WRAPPED | GROUP_ONE | OWNED | ACTIVE)
-
-#define ALL_OPEN (WRAPPED | LISTED | OWNED | PROMISED | ACTIVE | IN_ROUND)
-
 const struct worst_log worst_logs[] = {
     {"commits of 1", NULL, COMMITS, 1, 1, SPREAD, 0, FENCED},
     {"commits of 1, wrapped", NULL, COMMITS, 1, 1, SPREAD, 0, FENCED | WRAPPED},
@@ -98,6 +71,7 @@ struct worst worst;
 static struct {
     uint8_t log[sizeof worst.log], state[sizeof worst.state], newest[sizeof worst.newest];
 } kept;
+void (*worst_units)(bool again);
 static const struct worst_log *plan;
 static uint64_t stored;
 static bool failed, halved;
@@ -129,17 +103,18 @@ static uint64_t places_free(void)
 
 static uint64_t next_home(void)
 {
-    uint64_t span = worst.homes - FREE - CHAIN, words = span / WORD, i = stored++;
+    uint64_t first = plan->flags & UNITS ? BEHIND_UNITS : FREE, span = worst.homes - first - CHAIN, words = span / WORD,
+             i = stored++;
 
     if (plan->homes == ONE_WORD && words >= 2)
         return WORD + i % WORD;
     if (plan->homes == APART && words >= 2)
-        return FREE + i % words * WORD + i / words % WORD;
+        return first + i % words * WORD + i / words % WORD;
     if (plan->homes == HIGH && span > 2 * SMALL_HOMES)
         return SMALL_HOMES + i % (span - SMALL_HOMES);
     if (plan->homes == TWO)
-        return FREE + i % 2;
-    return FREE + i * 29 % span;
+        return first + i % 2;
+    return first + i * 29 % span;
 }
 
 static void begin(uint64_t writer)
@@ -315,6 +290,8 @@ static void lie_across(void)
 
 static void before_filling(void)
 {
+    if (plan->flags & UNITS)
+        worst_units(false);
     if (plan->flags & WRAPPED)
         wrap();
     if (plan->flags & LISTED) {
@@ -322,6 +299,8 @@ static void before_filling(void)
         store_list();
         commit(OWNER);
     }
+    if (plan->flags & UNITS)
+        worst_units(true);
     while (plan->flags & GROUP_ONE && !failed && places_free() > PLACES * (worst.groups - 1))
         commit_one(OTHER);
     if (plan->flags & OWNED)

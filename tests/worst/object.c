@@ -6,6 +6,7 @@
 
 #include "cases.h"
 #include "kagutin_store.h"
+#include "store/kagutin_state_layout.h"
 
 enum { SMALL_STEP = 8 };
 
@@ -32,7 +33,19 @@ static int fence(void *context)
     return 0;
 }
 
-/* The object with the log that is lent, open; where words land as many first words wait as can. */
+/* The first words that wait are as many as can, or those of all groups since the last fence. */
+static void leave_words_waiting(struct kgt_runner *runner)
+{
+#ifdef KGT_HEADS
+    runner->waiting = runner->driver.landing == KGT_LANDS_WORDS ? KGT_HEADS : 0;
+#else
+    runner->log = worst.log;
+    runner->state = worst.state;
+    runner->headed = worst_number(STATE_FENCED) / PLACES;
+#endif
+}
+
+/* The object with the log that is lent, open. */
 static bool lend_object(enum kgt_landing landing, enum kgt_room room)
 {
     const struct kgt_driver driver = {NULL, load, write_none, fence, landing};
@@ -45,7 +58,7 @@ static bool lend_object(enum kgt_landing landing, enum kgt_room room)
     store.newest = worst.newest;
     store.batch = worst.batch;
     store.condition = KGT_IS_OPEN;
-    store.runner.waiting = landing == KGT_LANDS_WORDS ? KGT_HEADS : 0;
+    leave_words_waiting(&store.runner);
     return true;
 }
 
@@ -142,5 +155,5 @@ static bool each_call(const struct worst_log *log, char **cases, bool make)
 
 int main(int count, char **words)
 {
-    return worst_go(count, words, each_call);
+    return worst_go(count, words, worst_logs, worst_log_count, each_call);
 }

@@ -55,8 +55,8 @@ def calls_of(rows, machine):
     return list(dict.fromkeys(row["call"] for row in rows if row["machine"] == machine))
 
 
-def library(rows, letters, kind):
-    lines = [[call] + [cell(found(rows, "x86-64", shape, call, kind), letters) for shape in SHAPES] for call in calls_of(rows, "x86-64")]
+def library(rows, letters, kind, machine="x86-64"):
+    lines = [[call] + [cell(found(rows, machine, shape, call, kind), letters) for shape in SHAPES] for call in calls_of(rows, machine)]
     return table([f"call, {kind}"] + [shape_name(shape) for shape in SHAPES], lines)
 
 
@@ -92,6 +92,7 @@ def main():
     rows = read_rows(bounds)
     letters = Letters()
     tables = {f"worst-{kind}": library(rows, letters, kind) for kind in ("valid", "damaged")}
+    tables["worst-units"] = "\n\n".join(library(rows, letters, kind, "units") for kind in ("valid", "damaged"))
     tables["worst-object"] = "\n\n".join(object_calls(rows, letters, room, title) for room, title in ROOMS)
     tables["worst-boards"] = "\n\n".join(boards(rows, letters, kind) for kind in ("valid", "damaged"))
     tables["worst-logs"] = letters.table()
