@@ -11,11 +11,13 @@ WORST_OUT = target/bench
 C_WORST = $(addprefix $(WORST)/,logs damage calls cases host)
 C_WORST_OBJECT = $(addprefix $(WORST)/,logs damage cases object) $(C_STORE)
 C_WORST_UNITS = $(addprefix $(WORST)/,logs damage cases units)
-WORST_PROGRAMS = $(patsubst %,$(C_OUT)/%,worst worst_object worst_units)
+C_WORST_HISTORY = $(addprefix $(WORST)/,logs damage cases history)
+WORST_PROGRAMS = $(patsubst %,$(C_OUT)/%,worst worst_object worst_units worst_history)
 
 $(eval $(call C_PROGRAM,worst,$(C_WORST),$(LIB)))
 $(eval $(call C_PROGRAM,worst_object,$(C_WORST_OBJECT),$(LIB)))
 $(eval $(call C_PROGRAM,worst_units,$(C_WORST_UNITS),$(UNITS_LIBS) $(LIB)))
+$(eval $(call C_PROGRAM,worst_history,$(C_WORST_HISTORY),$(LIB)))
 
 # Each board at the level that docs/PERFORMANCE.md gives for it; its largest store has 4,096 homes. The timer counts instructions: board.c.
 WORST_BOARDS = m0plus-Os m4-O2

@@ -86,7 +86,9 @@ const struct worst_call worst_calls[] = {
     {"open", "", nothing, run_open},
     {"open", "batch just large enough", open_tight, run_open},
     {"begin", "", last_idle, run_begin},
+    {"begin", "with one open", nothing, run_begin},
     {"reserve", "", last_idle, run_reserve},
+    {"reserve", "with one open", nothing, run_reserve},
     {"abort", "", owner_open, run_abort},
     {"store", "", owner_open, run_store},
     {"commit", "", owner_open, run_commit},
@@ -101,10 +103,11 @@ const struct worst_call worst_calls[] = {
     {"step_round, all homes", "batch just large enough", step_tight, run_step_all},
     {"trim", "", nothing, run_trim},
     {"read", "of the owner", nothing, run_read},
-    {"read", "", last_idle, run_read_kept},
+    {"read", "of another writer", nothing, run_read_kept},
     {"usage", "", nothing, run_usage},
     {"fetch, 7 homes", "", nothing, run_fetch},
     {"revise, 7 homes", "", nothing, run_revise},
     {"transact, 7 blocks", "", last_idle, run_transact},
+    {"transact, 7 blocks", "with one open", nothing, run_transact},
 };
 const size_t worst_call_count = sizeof worst_calls / sizeof *worst_calls;

@@ -108,6 +108,7 @@ static const struct worst_call calls[] = {
     {"format", "", nothing, run_format},
     {"open", "", nothing, run_open},
     {"begin", "", last_idle, run_begin},
+    {"begin", "with one open", nothing, run_begin},
     {"reserve", "", last_idle, run_reserve},
     {"abort", "", owner_open, run_abort},
     {"store", "", owner_open, run_store},

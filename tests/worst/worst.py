@@ -16,6 +16,7 @@ import tempfile
 
 SHAPES = ((64, 64), (64, 1024), (1024, 4096), (1024, 65535))
 SEARCHED = ("x86-64",) + SHAPES[0]  # a check makes every call there, so that another log that has become the worst is seen
+HISTORY_SHAPES, HISTORY_SEEDS, HISTORY_CALLS = SHAPES[:2], (1, 2, 3), 1500
 FIELDS = ("machine", "groups", "homes", "call", "kind", "log", "variant", "answer", "instructions")
 BOUND_FIELDS = FIELDS + ("bound",)
 BOARD_FIELDS = ("groups", "homes", "log", "kind", "call", "variant", "answer", "instructions")
@@ -32,14 +33,15 @@ PROGRAMS = {
 }
 
 
-def counted(folder, machine, groups, homes, cases=()):
-    """A row for each call that the program makes on its logs, or on the cases named."""
+def counted(folder, machine, groups, homes, words=(), other=None):
+    """A row for each call that the machine's program makes on its logs, or on the cases named; or another program."""
     program, prefix, calls = PROGRAMS[machine]
+    program = other or program
     with tempfile.TemporaryDirectory() as scratch:
         out = os.path.join(scratch, "out")
         command = ["valgrind", "--tool=callgrind", f"--callgrind-out-file={out}", f"--log-file={scratch}/log", "--dump-after=counted", "--zero-before=counted", "--dump-line=no"]
         command += [f"--toggle-collect={prefix}{call}" for call in calls.split()]
-        command += [os.path.join(folder, program), str(groups), str(homes)] + list(cases)
+        command += [os.path.join(folder, program), str(groups), str(homes)] + list(words)
         ran = subprocess.run(command, capture_output=True, text=True, env=ENVIRONMENT, check=False)
         if ran.returncode:
             sys.exit(f"worst: {program} {groups} {homes}: {ran.stderr}")
@@ -102,6 +104,18 @@ def bound_of(instructions):
     return -(-more // step) * step
 
 
+def try_histories(folder, known):
+    """Random histories of the small shapes: a call that takes more there than on any of the logs is a log that is left out."""
+    best = greatest(known)
+    found = [row for shape in HISTORY_SHAPES for seed in HISTORY_SEEDS for row in counted(folder, "x86-64", *shape, (str(seed), str(HISTORY_CALLS)), "worst_history")]
+    dearer = [row for row in greatest(found).values() if row["instructions"] > best[key_of(row)]["instructions"]]
+    for row in dearer:
+        print(f"worst: {row['call']} takes {row['instructions']:,} in a random history at G {row['groups']:,}, D {row['homes']:,}: more than on any log of logs.c")
+    if dearer:
+        sys.exit(1)
+    print(f"worst: {len(found):,} calls of random histories, none dearer than on the logs")
+
+
 def search(folder, path):
     rows = []
     for machine in PROGRAMS:
@@ -109,6 +123,7 @@ def search(folder, path):
             found = counted(folder, machine, groups, homes)
             print(f"worst: {machine}, G {groups:,}, D {homes:,}: {len(found):,} calls", flush=True)
             rows += found
+    try_histories(folder, rows)
     write_rows(path, FIELDS, rows)
 
 
