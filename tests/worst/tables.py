@@ -23,8 +23,8 @@ class Letters:
     def of(self, row):
         name = row["log"] + (f"; {row['variant']}" if row["variant"] else "")
         if name not in self.known:
-            n = len(self.known)
-            self.known[name] = string.ascii_lowercase[n] if n < 26 else "a" + string.ascii_lowercase[n - 26]
+            more, last = divmod(len(self.known), 26)
+            self.known[name] = string.ascii_lowercase[more - 1:more] + string.ascii_lowercase[last]
         return self.known[name]
 
     def table(self):
