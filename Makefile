@@ -11,7 +11,8 @@
 # make rtos       the RTOS example, eight tasks on a store, on an emulated Cortex-M board
 # make play       random histories on the reference implementation alone
 # make bench      instructions and times of each call against the reference implementation; other stores, if installed
-# make bench-docs tables of docs/PERFORMANCE.md and docs/ring-cost.svg from the last bench
+# make bench-worst the worst cases of every call, on the emulated boards too, and make bench-peers the other stores: parts of make bench that need no prover
+# make bench-docs tables of docs/PERFORMANCE.md, docs/ring-cost.svg and the bounds of tests/worst from the last bench
 # make install    program, manual pages, headers, libraries and pkg-config files, under DESTDIR and PREFIX; make uninstall takes them away; make arduino a library for it
 # make debian-check the Debian packages built, judged by lintian and used; make chroot-check README's steps on a bare Debian 12 and 13, as root; both long
 # make kagutin    the program, target/c/kagutin, and links to it by the names of the older programs: inspect, wear, bands, gauges, inflow, station
@@ -43,7 +44,7 @@ GAUGES_ARCHIVE = target/staticlib/libgauges.a
 INFLOW_ARCHIVE = target/staticlib/libinflow.a
 ARCHIVES = $(ARCHIVE) $(GAUGES_ARCHIVE) $(INFLOW_ARCHIVE)
 
-.PHONY: all help run quick test test-library test-compared test-c compare play bench bench-docs reference library clean
+.PHONY: all help run quick test test-library test-compared test-c compare play bench bench-peers bench-docs reference library clean
 
 # The toolchain that this repository was checked with, as 'rt version' prints it.
 RATTLE = rattle-kit-5b-plain logic 097e4c862dff5811
@@ -91,11 +92,16 @@ rust/target/release/bench: $(ARCHIVES) reference
 
 bench: rust/target/release/bench
 	rust/target/release/bench --seed $(SEED)
-	@if [ -x rust/bench/peers/run.sh ]; then LIB=$(ARCHIVE) rust/bench/peers/run.sh; fi
+	@$(MAKE) --no-print-directory bench-worst bench-peers
 
-bench-docs:
-	python3 rust/bench/plot.py target/bench/bench.tsv docs/ring-cost.svg
-	python3 rust/bench/report.py target/bench/bench.tsv target/bench/peers.tsv docs/PERFORMANCE.md
+# Other stores, beside the C file, which needs no prover.
+bench-peers: $(LIB)
+	@if [ -x rust/bench/peers/run.sh ]; then LIB=$(LIB) rust/bench/peers/run.sh; fi
+
+# What was measured goes into the documents; what was not stays.
+bench-docs: bench-worst-docs
+	@if [ -f target/bench/bench.tsv ]; then python3 rust/bench/plot.py target/bench/bench.tsv docs/ring-cost.svg; fi
+	@python3 rust/bench/report.py target/bench/bench.tsv target/bench/peers.tsv docs/PERFORMANCE.md
 
 # For the edit loop: what needs no prover and little time.
 quick: all c-quick generator-quick

@@ -12,6 +12,7 @@
 # question-cost                  what question 2 costs; with LIB the archive it is a function of its own
 # wait-cost                      the longest waits: steps, reads, commits and trims over full logs
 # object-cost                    the object's calls on a driver that does nothing
+# worst-check                    the worst cases of every call against their bounds; make/worst.mk
 # c-kills                        longer: KILLS kills of a process at work, on this disk
 # c-dist                         headers and sources of the store object and its drivers into DIST
 # install, uninstall             headers, libraries, pkg-config files, the program and its manual pages, under DESTDIR and PREFIX, or LIBDIR and INCLUDEDIR
@@ -204,6 +205,7 @@ include make/units.mk
 include make/program.mk
 include make/powerloss.mk
 include make/rtos.mk
+include make/worst.mk
 include make/fuzz.mk
 include make/all_in_one.mk
 include make/build_systems.mk

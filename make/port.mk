@@ -4,8 +4,8 @@
 # dist-check      fails if a byte of them is not what the proved program gives
 # generator-check tests of the generator
 # port-compare    builds of it by gcc and clang, with sanitizers too, against the archive and the reference implementation: long
-# port-docs       tables of the C file in docs/PERFORMANCE.md
-# board-check     one emulated board and the RTOS example, where the packages are there
+# port-docs       tables of the C file in docs/PERFORMANCE.md; board-docs those of the boards alone, which need no proved archive
+# board-check     one emulated board with the worst cases on it, and the RTOS example, where the packages are there
 # arm             trials and recorded calls with cuts on emulated boards (Cortex-M0+, M4, M33), Arm, RISC-V and a big-endian machine
 
 # Crates whose extern "C" functions are the library, the header that declares them, and the structs of their results.
@@ -199,11 +199,13 @@ $(BENCHED:%=$(PORT_OUT)/%/bench.tsv): $(PORT_OUT)/%/bench.tsv: $(PORT_OUT)/%/lib
 	cd rust && KAGUTIN_LIB_DIR=$(CURDIR)/$(<D) CARGO_TARGET_DIR=$(CURDIR)/$(PORT_OUT)/bench cargo build --release --offline --quiet -p bench
 	$(PORT_OUT)/bench/release/bench --seed $(SEED) --no-times --out $(@D) > /dev/null
 
-.PHONY: port-docs
-port-docs: $(COSTS) $(BENCHED:%=$(PORT_OUT)/%/bench.tsv)
+.PHONY: port-docs board-docs
+port-docs: $(BENCHED:%=$(PORT_OUT)/%/bench.tsv) board-docs
+
+board-docs: $(COSTS)
 	python3 port/report.py $(REPLAY_OUT) $(PORT_OUT) docs/PERFORMANCE.md
 
 # What the gate runs: one board, where the packages are there.
 board-check:
-	@if command -v arm-none-eabi-gcc > /dev/null && command -v qemu-system-arm > /dev/null; then $(MAKE) --no-print-directory -s on-m4 object-stack rtos-run; \
+	@if command -v arm-none-eabi-gcc > /dev/null && command -v qemu-system-arm > /dev/null; then $(MAKE) --no-print-directory -s on-m4 object-stack rtos-run worst-board-check; \
 	else echo "skipped the emulated board: no arm-none-eabi-gcc or qemu-system-arm (port/packages.sh installs them)"; fi

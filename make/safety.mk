@@ -2,9 +2,10 @@
 #
 # trace         docs/TRACE.md again, from the marks beside definitions, statements, contracts, wrong programs and tests
 # trace-check   fails where it differs, and on a clause, call or answer that nothing stands for; part of make test
-# evidence      target/evidence, after make test: verdict, trace, axioms, validator's report, coverage of dist/kagutin.c, versions and hashes
+# evidence      target/evidence, after make test: verdict, trace, axioms, wrong programs, validator's report and wrong edits, worst cases, stack, coverage of
+#               dist/kagutin.c, versions and hashes; a page, and rows as JSON
 
-.PHONY: trace trace-check evidence evidence-coverage
+.PHONY: trace trace-check evidence evidence-coverage evidence-stack
 
 trace:
 	@python3 scripts/trace.py
@@ -27,5 +28,12 @@ evidence-coverage: $(COMPARE)
 	for program in $(COVERING); do $(EVIDENCE_OUT)/c/$$program > $(COVERED)/$$program.log || { cat $(COVERED)/$$program.log; exit 1; }; done
 	cd $(COVERED) && gcov --json-format --stdout --branch-probabilities kagutin.gcda > ../coverage.json
 
-evidence: evidence-coverage trace-check
+# Stack of the library's and the object's calls, here and on the emulated board where it is installed.
+evidence-stack: $(LIB) $(C_OUT)/object_stack
+	@mkdir -p $(EVIDENCE_OUT)
+	$(CC) -std=c99 -D_GNU_SOURCE -O2 -Iinclude tests/stack/stack.c $(LIB) $(C_LIBS) -o $(EVIDENCE_OUT)/stack
+	$(EVIDENCE_OUT)/stack > $(EVIDENCE_OUT)/stack.txt && $(C_OUT)/object_stack >> $(EVIDENCE_OUT)/stack.txt
+	@if [ -n "$(BOARDS_THERE)" ]; then $(MAKE) --no-print-directory -s object-stack | sed 's/^m4: //; s/^/m4: /' >> $(EVIDENCE_OUT)/stack.txt; fi
+
+evidence: evidence-coverage evidence-stack trace-check
 	@python3 scripts/evidence.py

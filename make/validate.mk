@@ -2,7 +2,8 @@
 #
 # validate        every file, both preprocessor forms, all widths and byte orders; SOLVER=cvc5 asks cvc5 instead of z3
 # validate-check  tests of the validator: wrong C and a wrong generator must be refused; some ten minutes of one processor, and it goes on where
-#                 it was stopped (target/validate-check.done). validate-quick-check is the gate's part of it, a minute and a half of one
+#                 it was stopped (target/validate-check.done). validate-quick-check is the gate's part of it, a minute and a half of one. Each leaves a
+#                 row for each wrong edit in target/, as JSON
 
 SOLVER ?= z3
 # A Python that has Debian's python3-z3 and python3-pycparser.
@@ -21,7 +22,7 @@ validate:
 .PHONY: validate-check validate-quick-check
 
 validate-check:
-	$(VALIDATE_PYTHON) tests/validator/check.py --done target/validate-check.done $(VALIDATED)
+	$(VALIDATE_PYTHON) tests/validator/check.py --done target/validate-check.done --rows target/validate-check.json $(VALIDATED)
 
 validate-quick-check:
-	$(VALIDATE_PYTHON) tests/validator/check.py --quick $(VALIDATED)
+	$(VALIDATE_PYTHON) tests/validator/check.py --quick --rows target/validate-quick-check.json $(VALIDATED)

@@ -1,5 +1,6 @@
 #!/usr/bin/env python3
-"""Fills the tables of the C file in docs/PERFORMANCE.md: report.py FOLDER-OF-THE-BOARDS FOLDER-OF-THE-BENCHES DOCUMENT."""
+"""Fills the tables of the C file in docs/PERFORMANCE.md: report.py FOLDER-OF-THE-BOARDS FOLDER-OF-THE-BENCHES DOCUMENT. Without benches those of the boards alone."""
+import os
 import re
 import sys
 
@@ -115,8 +116,10 @@ def main():
     cost = costs(boards)
     with open(document, encoding='utf-8') as handle:
         text = handle.read()
-    for name, new in (('c-size', sizes(cost)), ('c-stack', stacks(cost, boards)), ('c-boards', instructions(cost)),
-                      ('c-archive', against_archive(benches))):
+    tables = {'c-size': sizes(cost), 'c-stack': stacks(cost, boards), 'c-boards': instructions(cost)}
+    if os.path.exists(f'{benches}/archive/bench.tsv'):
+        tables['c-archive'] = against_archive(benches)
+    for name, new in tables.items():
         text = fill(text, name, new)
     with open(document, 'w', encoding='utf-8') as handle:
         handle.write(text)

@@ -1,8 +1,8 @@
 /*
  * What each call costs on a bare board: instructions, by the system timer of an emulator that counts one nanosecond for each
- * (-icount shift=0), and the deepest stack. Eight writers commit 4 blocks each in turn at G 1,024 and D 4,096; flush and confirm follow
- * every eighth commit, and settle, confirm and trim a log of three quarters. Then the log is filled and read,
- * settled by a step of 8 homes and whole, and opened.
+ * (-icount shift=0), and the deepest stack. At G 1,024 and D 4,096 eight writers have a transaction of 4 blocks each open at once and
+ * store and commit in turn; flush and confirm follow every eighth commit, and settle, confirm and trim a log of three quarters. Then
+ * the log is filled and read, settled by a step of 8 homes and whole, and opened.
  */
 #include <string.h>
 
@@ -13,7 +13,7 @@
 #define SYSTICK_RELOAD (*(volatile uint32_t *)0xe000e014)
 #define SYSTICK_NOW (*(volatile uint32_t *)0xe000e018)
 
-enum { PAINT = 0xa5, PAINTED = 40960, COMMITS = 4000, BLOCKS = 4 };
+enum { PAINT = 0xa5, PAINTED = 40960, EIGHTS = 500, SETTLED_AFTER = 168, BLOCKS = 4 };
 
 static struct {
     unsigned long calls, depth;
@@ -99,18 +99,31 @@ static int commit(uint64_t writer, int with_stack)
     return !one(COMMIT, writer, 0, with_stack).code;
 }
 
+/* A commit of 4 blocks of each writer, all open at once, block by block in turn. */
+static void commit_eight(int with_stack)
+{
+    unsigned w, k;
+
+    for (w = 0; w < KAGUTIN_WRITERS; w++)
+        one(BEGIN, w, 0, with_stack);
+    for (k = 0; k < BLOCKS; k++)
+        for (w = 0; w < KAGUTIN_WRITERS; w++)
+            if (one(STORE, w, random_home(), with_stack).code)
+                complain("the log is full\n");
+    for (w = 0; w < KAGUTIN_WRITERS; w++)
+        if (one(COMMIT, w, 0, with_stack).code)
+            complain("the log is full\n");
+}
+
 static void steady(void)
 {
     unsigned k;
 
-    for (k = 0; k < COMMITS; k++) {
-        if (!commit(k % KAGUTIN_WRITERS, k < 40))
-            complain("the log is full\n");
-        if (k % 8 == 7) {
-            one(FLUSH, 0, 0, k < 40);
-            one(CONFIRM, 0, 0, k < 40);
-        }
-        if (k % 1344 == 1343) {
+    for (k = 0; k < EIGHTS; k++) {
+        commit_eight(k < 5);
+        one(FLUSH, 0, 0, k < 5);
+        one(CONFIRM, 0, 0, k < 5);
+        if (k % SETTLED_AFTER == SETTLED_AFTER - 1) {
             one(SETTLE, 0, 0, 1);
             one(CONFIRM, 0, 0, 1);
             one(TRIM, 0, 0, 1);

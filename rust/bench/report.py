@@ -1,5 +1,5 @@
 #!/usr/bin/env python3
-"""Puts the tables of the last bench into docs/PERFORMANCE.md, between its marks <!-- NAME --> and <!-- end -->.
+"""Puts the tables of the last bench into docs/PERFORMANCE.md, between its marks <!-- NAME --> and <!-- end -->; of two files those that are there.
 
 usage: report.py BENCH.TSV PEERS.TSV DOCUMENT
 """
@@ -84,13 +84,12 @@ def main():
     if len(sys.argv) != 4:
         sys.exit(__doc__)
     bench, peers, document = sys.argv[1:]
-    rows = rows_of(bench)
-    tables = {
-        "calls": call_table([row for row in rows if row["table"] == "calls"]),
-        "durable": call_table([row for row in rows if row["table"] == "durable"]),
-        "worst": call_table([row for row in rows if row["table"] == "worst"]),
-        "size": size_table([row for row in rows if row["table"] == "size"]),
-    }
+    tables = {}
+    if os.path.exists(bench):
+        rows = rows_of(bench)
+        for name in ("calls", "durable", "worst"):
+            tables[name] = call_table([row for row in rows if row["table"] == name])
+        tables["size"] = size_table([row for row in rows if row["table"] == "size"])
     if os.path.exists(peers):
         stores = rows_of(peers)
         tables["single"] = peer_table([row for row in stores if row["what"] == "1"])

@@ -1,13 +1,14 @@
 #!/usr/bin/env python3
 """Tests of validate/: what is right it must accept, what is wrong it must refuse.
 
-    check.py [--quick] [--seed N] [--jobs N] [--done FILE] VALIDATE-WORDS      the words after --include that make validate gives
+    check.py [--quick] [--seed N] [--jobs N] [--done FILE] [--rows FILE] VALIDATE-WORDS      the words after --include that make validate gives
 
 Random programs, translated with the passes and without: accepted, and both builds give the same. Wrong edits of their C: refused, unless
 both texts give the same on many inputs. Wrong edits of dist/: refused, unless the compiler makes the same code of both or equivalent.py
 says why they mean the same. Tricks and faults in port/: refused, all of them.
 
-FILE holds what was done, and what it was done with; the next call goes on from there.
+The file of --done holds what was done, and what it was done with; the next call goes on from there. That of --rows gets a row for each
+wrong edit, as JSON: what was edited, how, and what became of it.
 """
 import hashlib
 import json
@@ -42,7 +43,18 @@ def given(path):
     return [word for pair in words.given for word in pair]
 
 
-# ---- one task each: gives counts by name, or raises Failed
+class Tally:
+    """What became of a task's wrong edits: counts by name, and a row for each."""
+
+    def __init__(self, **counts):
+        self.counts, self.rows = counts, []
+
+    def add(self, subject, function, edit, outcome):
+        self.counts[outcome] = self.counts.get(outcome, 0) + 1
+        self.rows.append({'subject': subject, 'function': function, 'edit': edit, 'outcome': outcome})
+
+
+# ---- one task each: gives a tally, or raises Failed
 
 def random_program(seed, mutants):
     with tempfile.TemporaryDirectory() as folder:
@@ -55,20 +67,21 @@ def random_program(seed, mutants):
                 raise Failed(f'random program {seed}, {target.name} {" ".join(passes)}: {said}')
         if not same_behaviour(folder, path, plain, 'right'):
             raise Failed(f'random program {seed}: with the passes and without, two behaviours')
-        rng, counts, text = random.Random(seed), {'programs': 1, 'refused': 0, 'do the same': 0}, text_of(path)
-        counts['functions'] = len(functions(text))
+        rng, tally, text = random.Random(seed), Tally(programs=1), text_of(path)
+        tally.counts['functions'] = len(functions(text))
         for k in range(mutants):
             name, wrong, what = mutant(rng, text, functions(text))
             write(f'{folder}/wrong.c', wrong)
             if not build(folder, f'{folder}/wrong.c', f'built{k}'):  # a wrong type where no input leads, say
-                counts['no C'] = counts.get('no C', 0) + 1
+                outcome = 'no C'
             elif refusal(program, words, f'{folder}/wrong.c', folder, target, [name]):
-                counts['refused'] += 1
+                outcome = 'refused'
             elif same_behaviour(folder, path, f'{folder}/wrong.c', f'wrong{k}'):
-                counts['do the same'] += 1
+                outcome = 'do the same'
             else:
                 raise Failed(f'random program {seed}, {target.name}: {name} was accepted with {what}')
-        return counts
+            tally.add(f'random program {seed}', name, what, outcome)
+        return tally
 
 
 def dist_edits(k):
@@ -85,12 +98,19 @@ def dist_edits(k):
             return refusals(SHARED['program'], given(right), path, SHARED['include'], target, names)
         refused = against(list(edits))
         refused = {name for name in edits if against([name])} if '' in refused else set(refused)
-        counts = {'refused': len(refused)}
-        for name in sorted(set(edits) - refused):
-            against([name])
-            how = explained(right, path, name, edits[name][1], folder)
-            counts[how] = counts.get(how, 0) + 1
-        return counts
+        tally = Tally()
+        for name in sorted(edits):
+            if name not in refused:
+                against([name])
+            tally.add(right, name, edits[name][1], 'refused' if name in refused else explained(right, path, name, edits[name][1], folder))
+        return tally
+
+
+def only(subject, edit, outcome):
+    """The tally of a task with one wrong edit."""
+    tally = Tally()
+    tally.add(subject, '', edit, outcome)
+    return tally
 
 
 def explained(right, path, name, what, folder):
@@ -114,7 +134,7 @@ def trick(k):
             raise Failed(f'{right}: a trick that does not compile: {what}')
         if not refused_somewhere(right, path, SHARED['include'], SHARED['program'], given(right)):
             raise Failed(f'{right}: a trick that is not refused: {what}')
-    return {'refused': 1}
+    return only(right, what, 'refused')
 
 
 def joined_edit(k):
@@ -130,7 +150,7 @@ def joined_edit(k):
         try:
             check_joined(f'{folder}/all.c', f'{folder}/all.h', [words.path for words in SHARED['words']], SHARED['include'])
         except Refused:
-            return {'refused': 1}
+            return only(SHARED['joined'], what, 'refused')
     raise Failed(f'an edit of the joined file that is not refused: {what}')
 
 
@@ -157,9 +177,9 @@ def fault(k):
             else:
                 words, include, right, wrong = given(subject), SHARED['include'], subject, os.path.join(folder, os.path.basename(subject))
             if generate(port, words, wrong):
-                return {'the generator stops': 1}
+                return only(f'port/{file}', f'{old} -> {new}', 'the generator stops')
             if refused_somewhere(right, wrong, include, Program(Words('', words).one('--rlib')), words):
-                return {'refused': 1}
+                return only(f'port/{file}', f'{old} -> {new}', 'refused')
     raise Failed(f'a fault that is not refused: {file}: {old}')
 
 
@@ -180,9 +200,10 @@ def tasks(quick, fresh):
 def work(task):
     kind, arguments = task
     try:
-        return task, KINDS[kind][0](*arguments), None
+        tally = KINDS[kind][0](*arguments)
+        return task, tally.counts, None, [{'kind': kind, **row} for row in tally.rows]
     except Failed as failed:
-        return task, None, str(failed)
+        return task, None, str(failed), [{'kind': kind, 'subject': '', 'function': '', 'edit': str(failed), 'outcome': 'accepted, and should not be'}]
 
 
 def digest():
@@ -209,7 +230,7 @@ def resumed(path, fresh):
 
 def report(kind, results):
     counts = {}
-    for _, found, _ in results:
+    for _, found, *_ in results:
         for name, n in (found or {}).items():
             counts[name] = counts.get(name, 0) + n
     print(f'validate-check: {len(results)} {KINDS[kind][1]}: {", ".join(f"{n} {name}" for name, n in counts.items() if n)}', flush=True)
@@ -237,6 +258,9 @@ def main():
                     handle.write(json.dumps(result) + '\n')
     for kind in KINDS:
         report(kind, [result for result in done if result[0][0] == kind])
+    if '--rows' in options:
+        rows = sorted((row for result in done for row in result[3]), key=lambda row: tuple(row.values()))
+        write(options['--rows'], json.dumps(rows, indent=1) + '\n')
     failed = sum(bool(result[2]) for result in done)
     print(f'validate-check: {len(done)} tasks, {failed} failed; {time.time() - start:.0f} s')
     sys.exit(1 if failed else 0)

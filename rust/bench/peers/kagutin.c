@@ -19,7 +19,7 @@
 #include <unistd.h>
 
 #include "kagutin.h"
-#include "store/state_layout.h"
+#include "store/kagutin_state_layout.h"
 #include "workload.h"
 
 enum { GROUPS = KAGUTIN_MAX_GROUPS, TRIM_AT = GROUPS / 4 * 3, LINE = 64, PAGE = 4096 };

@@ -2,7 +2,7 @@
 # Installs what the comparison with other stores needs. Nothing calls it by itself. packages.sh --list names them.
 set -eu
 
-packages="gcc libc6-dev libpmemobj-dev liblmdb-dev libsqlite3-dev valgrind"
+packages="gcc libc6-dev libpmemobj-dev liblmdb-dev libsqlite3-dev libdb-dev librocksdb-dev valgrind"
 
 as_root()
 {

@@ -1,11 +1,11 @@
 #!/bin/sh
-# Kagutin, PMDK's libpmemobj, LMDB and SQLite doing the same transactions of
-# blocks on a memory file system, the same reads, and an opening after the same
+# Kagutin, PMDK's libpmemobj, LMDB, SQLite, Berkeley DB and RocksDB doing the same
+# transactions of blocks on a memory file system, the same reads, and an opening after the same
 # power cut. Prints a table, writes target/bench/peers.tsv and, run by run,
 # peers-runs.tsv; if it fails there is neither. A peer that is not installed is
 # skipped; packages.sh installs them. Without valgrind no instructions are counted.
 #
-#   LIB     the library, target/staticlib/libkagutin.a by default
+#   LIB     the library, target/c/libkagutin.a by default
 #   FOLDER  a folder on a memory file system, /dev/shm by default
 #   ROUNDS  how often the stores take turns, 7 by default
 set -eu
@@ -13,7 +13,7 @@ cd "$(dirname "$0")/../../.."
 
 here=rust/bench/peers
 results=target/bench
-LIB=${LIB:-target/staticlib/libkagutin.a}
+LIB=${LIB:-target/c/libkagutin.a}
 CC=${CC:-cc}
 FOLDER=${FOLDER:-/dev/shm}
 ROUNDS=${ROUNDS:-7}
@@ -56,11 +56,20 @@ build_all()
     fi
     if available LMDB lmdb.h -llmdb; then
         build lmdb "$here/lmdb.c" -llmdb
+        build lmdb-count -DCOUNT_PAGES "$here/lmdb.c" -llmdb
         programs="$programs lmdb"
     fi
     if available SQLite sqlite3.h -lsqlite3; then
         build sqlite "$here/sqlite.c" -lsqlite3
         programs="$programs sqlite"
+    fi
+    if available "Berkeley DB" db.h -ldb; then
+        build berkeley "$here/berkeley.c" -ldb
+        programs="$programs berkeley"
+    fi
+    if available RocksDB rocksdb/c.h -lrocksdb; then
+        build rocksdb "$here/rocksdb.c" -lrocksdb
+        programs="$programs rocksdb"
     fi
 }
 
@@ -130,7 +139,7 @@ flush_instruction()
 }
 
 [ "$(uname -sm)" = "Linux x86_64" ] || { echo "peers: skipped: cache lines are flushed as on x86-64 under Linux"; exit 0; }
-[ -f "$LIB" ] || give_up "no $LIB; 'make library' makes it"
+[ -f "$LIB" ] || give_up "no $LIB; 'make bench-peers' makes it"
 [ "$(stat -f -c %T "$FOLDER")" = tmpfs ] || give_up "$FOLDER is not on a memory file system; set FOLDER to one that is"
 mkdir -p "$results"
 rm -f "$results/peers.tsv" "$results/peers-runs.tsv"
@@ -142,7 +151,8 @@ build_all
 : > "$out/counts.tsv"
 : > "$out/instructions.tsv"
 : > "$out/runs.tsv"
-[ -n "${programs##*pmemobj*}" ] || measure_all 0 1 pmemobj-count pmemobj-count-msync > "$out/counts.tsv"
+[ -n "${programs##*pmemobj*}" ] || measure_all 0 1 pmemobj-count pmemobj-count-msync >> "$out/counts.tsv"
+[ -n "${programs##*lmdb*}" ] || measure_all 0 1 lmdb-count >> "$out/counts.tsv"
 if command -v valgrind > /dev/null; then
     for name in $programs; do
         count_reads "$name" >> "$out/instructions.tsv"
@@ -163,4 +173,4 @@ mv "$out/peers.tsv" "$results/peers.tsv"
 mv "$out/runs.tsv" "$results/peers-runs.tsv"
 cat "$here/notes.txt"
 echo "Processor: $(sed -n 's/^model name[^:]*: //p' /proc/cpuinfo | head -n 1), cache lines flushed by $(flush_instruction)"
-dpkg-query -W -f 'Package: ${Package} ${Version}\n' libpmemobj1 liblmdb0 libsqlite3-0 2> /dev/null || true
+dpkg-query -W -f 'Package: ${Package} ${Version}\n' libpmemobj1 liblmdb0 libsqlite3-0 libdb5.3 'librocksdb*' 2> /dev/null || true
