@@ -54,6 +54,20 @@ static void step_tight(void)
     in_round();
 }
 
+/* A fence with the first words of all groups since the last one before it. */
+static void fence_batch(void)
+{
+    worst.batch[0] = 'F';
+    worst.batch[1] = 'N';
+}
+
+static uint64_t run_next_action(void)
+{
+    return kagutin_next_action(worst.batch, KAGUTIN_FN_SIZE, 0, worst.groups, worst.homes, worst_number(STATE_NEXT), 0,
+                               worst_number(STATE_FENCED) / PLACES, 1)
+        .kind;
+}
+
 #define RUN(name, call)                                                                                                          \
     static uint64_t name(void)                                                                                                   \
     {                                                                                                                            \
@@ -107,6 +121,7 @@ const struct worst_call worst_calls[] = {
     {"usage", "", nothing, run_usage},
     {"fetch, 7 homes", "", nothing, run_fetch},
     {"revise, 7 homes", "", nothing, run_revise},
+    {"next_action", "", fence_batch, run_next_action},
     {"transact, 7 blocks", "", last_idle, run_transact},
     {"transact, 7 blocks", "with one open", nothing, run_transact},
 };

@@ -33,16 +33,12 @@ static int fence(void *context)
     return 0;
 }
 
-/* The first words that wait are as many as can, or those of all groups since the last fence. */
+/* The first words of all groups since the last fence wait. */
 static void leave_words_waiting(struct kgt_runner *runner)
 {
-#ifdef KGT_HEADS
-    runner->waiting = runner->driver.landing == KGT_LANDS_WORDS ? KGT_HEADS : 0;
-#else
     runner->log = worst.log;
     runner->state = worst.state;
     runner->headed = worst_number(STATE_FENCED) / PLACES;
-#endif
 }
 
 /* The object with the log that is lent, open. */

@@ -27,7 +27,7 @@ MACHINES = ("x86-64", "units", "object", "m0plus-Os", "m4-O2")
 ENVIRONMENT = {"PATH": os.environ.get("PATH", ""), "GLIBC_TUNABLES": "glibc.cpu.hwcaps=-ERMS,-AVX2"}
 # Program, what its functions' names begin with, and the calls that it makes.
 PROGRAMS = {
-    "x86-64": ("worst", "kagutin_", "format open begin reserve abort store commit flush confirm settle begin_round step_round trim read usage fetch revise transact"),
+    "x86-64": ("worst", "kagutin_", "format open begin reserve abort store commit flush confirm settle begin_round step_round trim read usage fetch revise transact next_action"),
     "units": ("worst_units", "kagutin_", "bands_set bands_look_up pump_start pump_stop pump_hours pump_services alarm_arrive alarm_clear alarm_gravest"),
     "object": ("worst_object", "kgt_", "format open begin reserve abort store commit commit_sync sync read maintain usage"),
 }
