@@ -1,6 +1,6 @@
 -- What rights hide where homes are read and stored several at a time: two histories (G 4, D 12) from the format on, which differ only in the bytes stored in
--- home 4: together with home 3 before the list is committed, alone after it, and by a plain store. Writer 1 may not read home 4: all its answers and blocks are the same in
--- both. Writer 2 may: its blocks differ.
+-- home 4: together with home 3 before the list is committed, alone after it, and by a plain store. Writer 1 may not read home 4: all its answers and blocks
+-- are the same in both. Writer 2 may: its blocks differ.
 use Prim.Native.Nat.{ℕ}
 use mathlib.Core.Bool.{Bool, false, _&&_}
 use mathlib.Core.List.{List, [], _∷_, _++_}
@@ -15,7 +15,8 @@ use Rattle.theorems.specs.Hidden.{firstWriters, nextWriters, firstOpenin
 -- After a cut and a second opening, writer 0 commits homes 3 and 4, where home 4 gets bytes a, and then the list of Hidden.
 unfoldable pub sharedBefore : ℕ → List Act
 sharedBefore a =
-    plain (call firstOpening) ∷ transacts 0 4 (fill 6) room ∷ plain (crash 3 (λ i. false)) ∷ plain (call firstOpening) ∷ transacts 0 3 (fill 5 ++ fill a) room ∷ transacts 0 8 (firstWriters ++ nextWriters) room ∷ []
+    plain (call firstOpening) ∷ transacts 0 4 (fill 6) room ∷ plain (crash 3 (λ i. false)) ∷ plain (call firstOpening)
+    ∷ transacts 0 3 (fill 5 ++ fill a) room ∷ transacts 0 8 (firstWriters ++ nextWriters) room ∷ []
 
 -- Writer 1 fetches home 3, and homes 3 and 4, which it may not; writer 2 fetches both, revises home 4 and commits bytes b there; writer 1, which tries that
 -- too, revises and commits home 3; writer 2 stores bytes c in home 4, call by call; both fetch again.
