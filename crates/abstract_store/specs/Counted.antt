@@ -11,7 +11,7 @@ use Rattle.model.specs.History.{calls}
 use Rattle.model.specs.examples.Witnesses.{reopen}
 use Rattle.model.specs.examples.Reservations.{reserving}
 use Rattle.abstract_store.specs.Store.{Store, newStore, follow, placesLeft, nextOf, flushBytes, settleBytes, trimBytes}
-use Rattle.abstract_store.specs.Places.{Fate, live, dead, free, enterEvent, many, drained}
+use Rattle.abstract_store.specs.Places.{Fate, live, dead, free, enterEvent, many, drained, LongEnough}
 use Rattle.abstract_store.specs.Usage.{Usage, toldAt}
 
 -- the live, the dead and the free places after a history, and the places in the ledger: writer 1's three and the committed one, writer 0's aborted one and the three passed over
@@ -51,7 +51,13 @@ drainsAt w s [] =
     ∷ ends w₁ (settle (zeros (settleBytes s₁ - 1))) .code ∷ ends w₂ (trim (zeros (trimBytes s₂ - 1))) .code ∷ []
 drainsAt w s (e ∷ es) = drainsAt (step w e) (follow s w e) es
 
+unfoldable pub oneCommit : List Event
+oneCommit = reopen ∷ calls (begin 0 ∷ store 0 1 (fill 1) room ∷ commit 0 room ∷ [])
+
 unfoldable pub drainsSo : Bool
-drainsSo =
-    same (drainsAt (emptyStore 4 8) (newStore 4 8) (reopen ∷ calls (begin 0 ∷ store 0 1 (fill 1) room ∷ commit 0 room ∷ [])))
-    (28 ∷ 35 ∷ 35 ∷ 518 ∷ 70 ∷ 68 ∷ 9 ∷ 9 ∷ 9 ∷ [])
+drainsSo = same (drainsAt (emptyStore 4 8) (newStore 4 8) oneCommit) (28 ∷ 35 ∷ 35 ∷ 518 ∷ 70 ∷ 68 ∷ 9 ∷ 9 ∷ 9 ∷ [])
+
+-- so such batches meet the premise of `Drains`: the settle of one home of eight asks for that home alone
+abbrev pub EnoughAt : World → Store → List Event → Type 0
+EnoughAt w s [] = LongEnough w s (zeros 518) (zeros 70) (zeros 68)
+EnoughAt w s (e ∷ es) = EnoughAt (step w e) (follow s w e) es

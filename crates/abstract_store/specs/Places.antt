@@ -152,7 +152,7 @@ pub record Drained (w : World) (s : Store) (first second third : List ℕ) : Typ
   pub empty : nextOf (drained w s first second third) ≡ 7 * drained w s first second third .start
   pub all : placesLeft (drained w s first second third) ≡ 7 * s .groups
 
--- "trains long enough": each batch as long as the bytes that its call, by the abstract store, writes at that moment, and no longer
+-- "trains long enough": each batch has at least the bytes that its call, by the abstract store, writes at that moment; no more is asked of it
 pub record LongEnough (w : World) (s : Store) (first second third : List ℕ) : Type 0 where
   pub forFlush : flushBytes s ≤ length first
   pub forSettle : settleBytes (follow s w (call (flush first))) ≤ length second

@@ -1,5 +1,6 @@
 -- What fetch, revise and transact answer, in terms of the calls before them: number, figure and bytes of records, as the abstract store (its Store.antt)
--- says it of the other calls. Nothing here is from the strip, the copies or the bytes of the log.
+-- says it of the other calls. The replies know nothing of the strip, the copies or the bytes of the log; `Agreeing`, at the end, says of these at which
+-- moments the replies hold.
 -- "asks the store's questions once, in 01's order, for all of it": 1, 4, 5 for all homes, 19 for all, 20 for all, 6, 8, 9. Of question 1 only the lent
 -- blocks are in the caller's hand at a moment of a history, and question 2 refuses none there.
 use Prim.Native.Nat.{ℕ, zero, suc, _+_, _*_, _/_, _≤_, _<_}

@@ -9,7 +9,7 @@ use lib.Dec.{eqb}
 use lib.ListN.{length}
 use Rattle.model.specs.Bytes.{part}
 use Rattle.model.specs.Calls.{Outcome}
-use Rattle.model.specs.History.{Service, settles, roundBegins, roundSteps, trims, reads, Call, opening, confirm, change, service, Event, call, crash, World, Formatting, afterFormat, ends}
+use Rattle.model.specs.History.{Service, settles, roundBegins, roundSteps, trims, reads, Call, opening, confirm, change, service, call, crash, World, Formatting, afterFormat, ends}
 use Rattle.acts.specs.Units.{Act, plain, transacts, fetches, revises, transactEnds, fetchEnds, reviseEnds, act, acted, AllActsAllowed, expandAll}
 use Rattle.abstract_store.specs.Store.{Store, newStore, Reply, told, replyOf}
 use Rattle.theorems.specs.Isolation.{Each, StoreAlike, CallAlike, followed, DeniedThroughout}
@@ -26,6 +26,11 @@ module _ (hidden : ℕ → Bool) where
     transacted : {writer home : ℕ} {a b batch : List ℕ} → BlocksAlike home a b → ActAlike (transacts writer home a batch) (transacts writer home b batch)
     fetched : {writer home : ℕ} {blocks : List ℕ} → ActAlike (fetches writer home blocks) (fetches writer home blocks)
     revised : {writer home : ℕ} {blocks : List ℕ} → ActAlike (revises writer home blocks) (revises writer home blocks)
+
+  -- what comes before: the same acts in both, cuts among them, and then acts alike
+  pub data BeforeAlike : List Act → List Act → Type 0 where
+    differs : {xs ys : List Act} → Each ActAlike xs ys → BeforeAlike xs ys
+    shares : {a : Act} {xs ys : List Act} → BeforeAlike xs ys → BeforeAlike (a ∷ xs) (a ∷ ys)
 
 -- What an act answers: its number, its figure and its batch length. A cut answers nothing.
 unfoldable pub answerOf : World → Act → Reply
@@ -81,12 +86,13 @@ ActsIsolated =
     StoreAlike hidden s t → Each (ActAlike hidden) xs ys → DeniedThroughout writer hidden s w (expandAll w xs) → SameThroughout writer w v xs ys
 
 -- The same with nothing said of stores: two histories, each from a done format on, of acts that are alike but for bytes in hidden homes. The list may be
--- committed on the way: what comes before `xs` and `ys` is alike too, and the writer may read anything in it.
+-- committed on the way: what comes before `xs` and `ys` is alike too, and the writer may read anything in it. Cuts may come as long as the histories are the
+-- same, so none once a hidden byte differs. [S-61]
 abbrev pub IsolatedFromFormat : Type 0
 IsolatedFromFormat =
     (groups homes : ℕ) (f g : Formatting groups homes) (before other xs ys : List Act) (writer : ℕ) (hidden : ℕ → Bool) →
     AllActsAllowed (afterFormat f) (before ++ xs) → AllActsAllowed (afterFormat g) (other ++ ys) → acted (afterFormat f) before .ready ≡ true →
-    Each (ActAlike hidden) before other → Each (ActAlike hidden) xs ys →
+    BeforeAlike hidden before other → Each (ActAlike hidden) xs ys →
     let w : World = acted (afterFormat f) before in
     let s : Store = followedActs (newStore groups homes) (afterFormat f) before in
     DeniedThroughout writer hidden s w (expandAll w xs) → SameThroughout writer w (acted (afterFormat g) other) xs ys

@@ -11,7 +11,7 @@ use Rattle.unit_events.specs.Homes.{alarmHome}
 use Rattle.unit_events.specs.Offered.{heldAfter}
 use Rattle.unit_events.specs.Folded.{noted, offers, ran, notes, stepped, Folded, Recorded}
 use Rattle.unit_events.proofs.FoldedHolds.{events-folded}
-use Rattle.unit_shared.specs.Unit.{Left, asJudged as judges, event}
+use Rattle.unit_shared.specs.Unit.{UnitOutcome, asJudged as judges, event}
 use Rattle.unit_shared.specs.Moments.{lentIn, Leaves}
 use Rattle.unit_shared.proofs.MomentLaws.{event-stands}
 use Rattle.unit_shared.proofs.MomentShown.{shown-there, first-there, kept-there, event-alike}
@@ -25,13 +25,13 @@ use Rattle.unit_alarms.specs.Histories.{inRange, AlarmsAt, AlarmsKept}
 use Rattle.unit_alarms.proofs.Claimed.{claimed}
 
 -- the call of an event of a known class is an event of the unit
-asked-is : (w : World) (writer : ℕ) (e : Event) (batch : List ℕ) → inRange e ≡ true
+pub asked-is : (w : World) (writer : ℕ) (e : Event) (batch : List ℕ) → inRange e ≡ true
     → event (lentIn w batch) writer alarmHome 6 (judge e) ≡ eventCall (lentIn w batch) writer e
 unfolding inRange eventCall arriveCall clearCall
 asked-is w writer (arrival a) batch i = rw i
 asked-is w writer (clearing identity) batch i = refl
 
-judged-alike : (w : World) (writer : ℕ) (e : Event) (batch : List ℕ)
+pub judged-alike : (w : World) (writer : ℕ) (e : Event) (batch : List ℕ)
     → event (lentIn w batch) writer alarmHome 6 (λ b. judges (judged b e) (heldWith b e)) ≡ event (lentIn w batch) writer alarmHome 6 (judge e)
 unfolding judge judged heldWith applied settled
 judged-alike w writer e batch =

@@ -3,33 +3,36 @@ use Prim.Native.Nat.{ℕ, zero, suc, _+_, _*_, _≤_, _<_}
 use mathlib.Core.Path.{_≡_, refl, sym, ap, _∙_}
 use mathlib.Core.Bool.{Bool, true, false, cond, _&&_}
 use mathlib.Core.Logic.{inl, inr, _≢_}
-use mathlib.Core.List.{List}
+use mathlib.Core.List.{List, []}
 use native.Mathlib.Decide.{decLt}
 use native.Mathlib.Omega.{arith}
 use borrow.Author.Tests.{le-leb, lt-leb}
 use lib.Dec.{leb}
 use lib.ListN.{length}
 use Rattle.model.specs.Bytes.{zeros}
+use Rattle.model.proofs.examples.Computing.{all-definitions}
 use Rattle.model.specs.History.{World, Formatting, afterFormat}
 use Rattle.abstract_store.specs.Store.{Store, told}
 use Rattle.unit_events.specs.Homes.{alarmHome, alarmHomes}
 use Rattle.unit_events.specs.Offered.{heldAfter}
 use Rattle.unit_events.specs.Folded.{Step, noted, ran, notes, AllStepsAllowed, SparedBySteps}
 use Rattle.unit_events.proofs.FoldedHolds.{events-folded}
-use Rattle.unit_shared.specs.Unit.{untouched, fetched, revised, transacted}
+use Rattle.unit_shared.specs.Unit.{Lent, untouched, fetched, revised, transacted}
 use Rattle.unit_shared.specs.Moments.{lentIn}
 use Rattle.unit_shared.specs.Replies.{askRead, replyEvent, toldBy, Answered, storeBeside}
 use Rattle.unit_shared.proofs.MomentShown.{shown-there, first-there, kept-there}
 use Rattle.unit_shared.proofs.RepliesHold.{EventEnds, fetched-code, event-told, told-refused, few-unread, few-unfetched, answered-there}
 use Rattle.unit_alarms_list.specs.declared.Alarm.{Alarm}
-use Rattle.unit_alarms_list.specs.OpenAlarms.{gravest, told as shown}
+use Rattle.unit_alarms_list.specs.Alarm.{alarmAt}
+use Rattle.unit_alarms_list.specs.OpenAlarms.{gravest, told as shown, keptOf}
 use Rattle.unit_alarms_list.specs.Events.{Event, arrival, clearing}
 use Rattle.unit_alarms_list.specs.Guarantees.{openBy, answerBy, heldWith, Represents, Typed}
 use Rattle.unit_alarms_list.specs.Stored.{judged}
 use Rattle.unit_alarms_list.proofs.StoredHolds.{filling, alarms-recorded}
-use Rattle.unit_alarms.specs.Calls.{judge, arriveCall, clearCall, alarmTells, tells, gravestCall}
+use Rattle.unit_alarms.specs.Calls.{judge, arriveCall, clearCall, alarmTells, tells, gravestIn, gravestCall}
 use Rattle.unit_alarms.specs.Claims.{eventCall, Claim}
 use Rattle.unit_alarms.specs.Answers.{arriveReply, clearReply, gravestAnswered, gravestReply, EventAnswers, GravestAnswers, AlarmAnswers, AlarmsAnswer}
+use Rattle.unit_alarms.proofs.FewHomes.{zeros-there}
 use Rattle.unit_alarms.proofs.RefusalsHold.{refusals-on-alarms}
 use Rattle.unit_alarms.proofs.Claimed.{recording, claimed}
 
@@ -115,17 +118,25 @@ gravest-reply w s m es tellsBy writer batch = go (askRead s writer alarmHome 1) 
     go (suc n) e =
         refusals-on-alarms (lentIn w batch) writer .gravestUnread (λ z. absurd (omega (arith, e, z))) ∙ ap (λ (x : ℕ). tells x 0 0 0) e
 
--- ---- in the histories of alarms
+-- a home of zeros says that none is open
+zeros-none : keptOf (zeros 64) ≡ shown (gravest (openBy []))
+unfolding all-definitions keptOf alarmAt shown gravest openBy
+zeros-none = refl
 
-kept-answers : (groups homes : ℕ) → alarmHome + alarmHomes ≤ homes → (f : Formatting groups homes) (ss : List (Step Event))
+none-open : (l : Lent) (writer : ℕ) → fetched l writer alarmHome 1 .code ≡ 0 → fetched l writer alarmHome 1 .block ≡ zeros 64
+    → gravestCall l writer ≡ alarmTells (shown (gravest (openBy [])))
+unfolding gravestCall gravestIn
+none-open l writer z b = rw (z, b, zeros-none)
+
+-- ---- in the histories of alarms, with any store by which the moment is answered
+
+pub kept-with : (groups homes : ℕ) → alarmHome + alarmHomes ≤ homes → (f : Formatting groups homes) (ss : List (Step Event))
     → AllStepsAllowed alarmHome alarmHomes judged heldWith (afterFormat f) ss → SparedBySteps alarmHome alarmHomes judged heldWith Typed (afterFormat f) ss
-    → ran alarmHome alarmHomes judged heldWith (afterFormat f) ss .ready ≡ true
-    → AlarmAnswers (ran alarmHome alarmHomes judged heldWith (afterFormat f) ss) (storeBeside alarmHome alarmHomes judged heldWith f ss)
-    (noted (notes alarmHome alarmHomes judged heldWith (afterFormat f) ss))
-kept-answers groups homes d f ss ok spared ready =
+    → ran alarmHome alarmHomes judged heldWith (afterFormat f) ss .ready ≡ true → (s : Store)
+    → Answered (ran alarmHome alarmHomes judged heldWith (afterFormat f) ss) s
+    → AlarmAnswers (ran alarmHome alarmHomes judged heldWith (afterFormat f) ss) s (noted (notes alarmHome alarmHomes judged heldWith (afterFormat f) ss))
+kept-with groups homes d f ss ok spared ready s m =
     let w : World = ran alarmHome 6 judged heldWith (afterFormat f) ss in
-    let s : Store = storeBeside alarmHome 6 judged heldWith f ss in
-    let m : Answered w s = answered-there alarmHome 6 judged heldWith f ss ok ready in
     let ns = notes alarmHome 6 judged heldWith (afterFormat f) ss in
     let g = events-folded alarmHome 6 judged heldWith Typed (omega arith) filling groups homes (omega arith) f ss ok spared in
     let r = alarms-recorded groups homes (omega arith) f ss ok spared in
@@ -152,5 +163,23 @@ none-answers : (w : World) (s : Store) → Answered w s → s .homes < alarmHome
 none-answers w s m l es =
     gravest-reply w s m es (λ writer batch z. absurd (few-unfetched w s m writer alarmHome 1 (omega arith) (omega arith) l batch z))
 
+-- with a home for the gravest and too few for events
+first-answers : (groups homes : ℕ) → alarmHome + 1 ≤ homes → homes < alarmHome + alarmHomes → (f : Formatting groups homes) (ss : List (Step Event))
+    → AllStepsAllowed alarmHome alarmHomes judged heldWith (afterFormat f) ss → SparedBySteps alarmHome alarmHomes judged heldWith Typed (afterFormat f) ss
+    → ran alarmHome alarmHomes judged heldWith (afterFormat f) ss .ready ≡ true
+    → GravestAnswers (ran alarmHome alarmHomes judged heldWith (afterFormat f) ss) (storeBeside alarmHome alarmHomes judged heldWith f ss) []
+first-answers groups homes one few f ss ok spared ready =
+    let w : World = ran alarmHome alarmHomes judged heldWith (afterFormat f) ss in
+    let s : Store = storeBeside alarmHome alarmHomes judged heldWith f ss in
+    gravest-reply w s (answered-there alarmHome alarmHomes judged heldWith f ss ok ready) []
+    (λ writer batch z. none-open (lentIn w batch) writer z (zeros-there f few one ss ok spared ready writer batch z))
+
 pub alarms-answer : AlarmsAnswer
-alarms-answer = record { kept = kept-answers; few = few-answers; none = none-answers }
+alarms-answer =
+    record {
+      kept = λ groups homes d f ss ok spared ready.
+          kept-with groups homes d f ss ok spared ready (storeBeside alarmHome 6 judged heldWith f ss) (answered-there alarmHome 6 judged heldWith f ss ok ready);
+      few = few-answers;
+      first = first-answers;
+      none = none-answers;
+    }

@@ -9,7 +9,7 @@ use Rattle.model.specs.Bytes.{zeros}
 use Rattle.call_ask.specs.Lent.{lentAll}
 use Rattle.acts.specs.Many.{fetchCall}
 use Rattle.unit_events.specs.Homes.{alarmHome}
-use Rattle.unit_shared.specs.Unit.{Lent, Left, leaves, asJudged, fetched, event}
+use Rattle.unit_shared.specs.Unit.{Lent, UnitOutcome, leaves, asJudged, fetched, event}
 use Rattle.unit_shared.proofs.UnitLaws.{refusal, readAs, fetching}
 use Rattle.unit_alarms_list.specs.Alarm.{classKnown}
 use Rattle.unit_alarms_list.specs.declared.Alarm.{Alarm}
@@ -32,11 +32,11 @@ module _ (l : Lent) (writer : ℕ) where
     unfolding arriveCall
     arrival-unknown n ec ef es = rw (← k, not-true b n) (refusal l 24 0 ec ef es)
 
-    pub arrival-known : not b ≡ false → {x : Left} → x ≡ event l writer alarmHome 6 (judge (arrival a)) → x ≡ arriveCall l writer a
+    pub arrival-known : not b ≡ false → {x : UnitOutcome} → x ≡ event l writer alarmHome 6 (judge (arrival a)) → x ≡ arriveCall l writer a
     unfolding arriveCall
     arrival-known n q = rw (← k, not-false b n) q
 
-  pub any-clearing : (identity : ℕ) {x : Left} → x ≡ event l writer alarmHome 6 (judge (clearing identity)) → x ≡ clearCall l writer identity
+  pub any-clearing : (identity : ℕ) {x : UnitOutcome} → x ≡ event l writer alarmHome 6 (judge (clearing identity)) → x ≡ clearCall l writer identity
   unfolding clearCall
   any-clearing identity q = q
 

@@ -3,4 +3,5 @@ pub mod CallLaws
 pub mod Claimed
 pub mod AlarmsHold
 pub mod ExampleHolds
+pub mod FewHomes
 pub mod AnswersHold

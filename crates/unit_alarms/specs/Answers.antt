@@ -4,8 +4,8 @@
 -- ticket. gravest: 4, 5, 20, then the gravest open alarm or three zeros. 1 and 2 refuse none at a moment of a history.
 use Prim.Native.Nat.{ℕ, zero, suc, _+_, _≤_, _<_}
 use mathlib.Core.Path.{_≡_}
-use mathlib.Core.Bool.{Bool, true, cond, _&&_}
-use mathlib.Core.List.{List}
+use mathlib.Core.Bool.{true, cond, _&&_}
+use mathlib.Core.List.{List, []}
 use lib.Dec.{leb}
 use Rattle.model.specs.History.{World, Formatting, afterFormat}
 use Rattle.abstract_store.specs.Store.{Store, Reply, told}
@@ -50,7 +50,7 @@ pub record AlarmAnswers (w : World) (s : Store) (es : List Event) : Type 0 where
 
 -- At the end of every history of `AlarmsKept`, and so at every moment of it after a done opening. With too few homes for alarms, at every moment at which
 -- fetch, revise and transact answer by the store (`ActsAnswer`): events 4 or 5 after the class, whatever came before, and the gravest too if its own home is
--- none of them. [S-50]
+-- none of them. If that home is there and one of the others is not (D 25 to 29), no event is ever done, and the gravest is none. [S-50]
 pub record AlarmsAnswer : Type 0 where
   pub kept :
       (groups homes : ℕ) → alarmHome + alarmHomes ≤ homes → (f : Formatting groups homes) (ss : List (Step Event)) →
@@ -59,4 +59,9 @@ pub record AlarmsAnswer : Type 0 where
       AlarmAnswers (ran alarmHome alarmHomes judged heldWith (afterFormat f) ss) (storeBeside alarmHome alarmHomes judged heldWith f ss)
       (noted (notes alarmHome alarmHomes judged heldWith (afterFormat f) ss))
   pub few : (w : World) (s : Store) → Answered w s → s .homes < alarmHome + alarmHomes → (es : List Event) → EventAnswers w s es
+  pub first :
+      (groups homes : ℕ) → alarmHome + 1 ≤ homes → homes < alarmHome + alarmHomes → (f : Formatting groups homes) (ss : List (Step Event)) →
+      AllStepsAllowed alarmHome alarmHomes judged heldWith (afterFormat f) ss → SparedBySteps alarmHome alarmHomes judged heldWith Typed (afterFormat f) ss →
+      ran alarmHome alarmHomes judged heldWith (afterFormat f) ss .ready ≡ true →
+      GravestAnswers (ran alarmHome alarmHomes judged heldWith (afterFormat f) ss) (storeBeside alarmHome alarmHomes judged heldWith f ss) []
   pub none : (w : World) (s : Store) → Answered w s → s .homes < alarmHome + 1 → (es : List Event) → GravestAnswers w s es

@@ -6,7 +6,7 @@ use lib.Dec.{eqb}
 use Rattle.model.specs.Bytes.{zeros}
 use Rattle.model.specs.Calls.{Outcome}
 use Rattle.unit_events.specs.Homes.{alarmHome, alarmHomes}
-use Rattle.unit_shared.specs.Unit.{Lent, Left, untouched, Judged, asJudged, fetched, event}
+use Rattle.unit_shared.specs.Unit.{Lent, UnitOutcome, untouched, Judged, asJudged, fetched, event}
 use Rattle.unit_alarms_list.specs.Alarm.{classKnown}
 use Rattle.unit_alarms_list.specs.declared.Alarm.{Alarm}
 use Rattle.unit_alarms_list.specs.OpenAlarms.{keptOf}
@@ -17,10 +17,10 @@ unfoldable pub judge : Event → List ℕ → Judged
 judge e blocks = asJudged (applied blocks (zeros 384) e .code) (applied blocks (zeros 384) e .output)
 
 -- "24 class out of range": "the class is asked before the store's questions"
-unfoldable pub arriveCall : Lent → ℕ → Alarm → Left
+unfoldable pub arriveCall : Lent → ℕ → Alarm → UnitOutcome
 arriveCall l writer a = cond (classKnown (a .class)) (event l writer alarmHome alarmHomes (judge (arrival a))) (untouched l 24 0)
 
-unfoldable pub clearCall : Lent → ℕ → ℕ → Left
+unfoldable pub clearCall : Lent → ℕ → ℕ → UnitOutcome
 clearCall l writer identity = event l writer alarmHome alarmHomes (judge (clearing identity))
 
 -- "The panel shows the gravest open alarm"; "With none open the gravest is none, told as three zeros." It is kept in the first home.

@@ -7,7 +7,7 @@ use mathlib.Core.Logic.{_≢_}
 use lib.ListN.{length}
 use Rattle.model.specs.Bytes.{part, zeros}
 use Rattle.unit_events.specs.Homes.{alarmHome, alarmHomes}
-use Rattle.unit_shared.specs.Unit.{Lent, Left, untouched, fetched, revised, transacted}
+use Rattle.unit_shared.specs.Unit.{Lent, UnitOutcome, untouched, fetched, revised, transacted}
 use Rattle.unit_shared.specs.Shown.{Shown}
 use Rattle.unit_alarms_list.specs.OpenAlarms.{gravest, told}
 use Rattle.unit_alarms_list.specs.Events.{Event, arrival, clearing}
@@ -23,7 +23,7 @@ pub record Recording : Type 0 where
   pub size : (blocks : List ℕ) (e : Event) → judge e blocks .code ≡ 0 → length (judge e blocks .blocks) ≡ 384
 
 -- the call of an event
-unfoldable pub eventCall : Lent → ℕ → Event → Left
+unfoldable pub eventCall : Lent → ℕ → Event → UnitOutcome
 eventCall l writer (arrival a) = arriveCall l writer a
 eventCall l writer (clearing identity) = clearCall l writer identity
 

@@ -1,6 +1,6 @@
 -- The alarms' homes in the histories of the store. "the list is the arrivals in L not cleared after; kept = told = its gravest; 24 and 25 are answered by
 -- it"
-use Prim.Native.Nat.{ℕ, _+_, _*_}
+use Prim.Native.Nat.{ℕ}
 use mathlib.Core.Path.{_≡_}
 use mathlib.Core.Bool.{true}
 use mathlib.Core.List.{List}

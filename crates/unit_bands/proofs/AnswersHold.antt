@@ -13,7 +13,7 @@ use Rattle.model.specs.History.{World, Formatting, afterFormat}
 use Rattle.abstract_store.specs.Store.{Store}
 use Rattle.unit_events.specs.Homes.{tableHome, tableHomes}
 use Rattle.unit_events.specs.Folded.{Step, noted, ran, notes, AllStepsAllowed, SparedBySteps}
-use Rattle.unit_shared.specs.Unit.{Left, untouched, fetched}
+use Rattle.unit_shared.specs.Unit.{UnitOutcome, untouched, fetched}
 use Rattle.unit_shared.specs.Moments.{lentIn}
 use Rattle.unit_shared.specs.Replies.{askRead, replyStored, toldBy, Answered, storeBeside}
 use Rattle.unit_shared.proofs.RepliesHold.{fetched-code, transacted-told, few-unread, few-unfetched, answered-there}
@@ -62,17 +62,16 @@ module _ (w : World) (s : Store) (m : Answered w s) (cs ts : List (List ℕ)) (c
   table-answers : TableAnswers w s ts
   table-answers = record { sets = set-reply; lookups = lookup-reply }
 
--- in the histories of the table
-kept-answers : (groups homes : ℕ) → tableHome + tableHomes ≤ homes → (f : Formatting groups homes) (ss : List (Step (List ℕ)))
+-- in the histories of the table, with any store by which the moment is answered
+pub kept-with : (groups homes : ℕ) → tableHome + tableHomes ≤ homes → (f : Formatting groups homes) (ss : List (Step (List ℕ)))
     → AllStepsAllowed tableHome tableHomes judged stored (afterFormat f) ss → SparedBySteps tableHome tableHomes judged stored Accepted (afterFormat f) ss
-    → ran tableHome tableHomes judged stored (afterFormat f) ss .ready ≡ true
-    → TableAnswers (ran tableHome tableHomes judged stored (afterFormat f) ss) (storeBeside tableHome tableHomes judged stored f ss)
-    (noted (notes tableHome tableHomes judged stored (afterFormat f) ss))
-kept-answers groups homes d f ss ok spared ready =
+    → ran tableHome tableHomes judged stored (afterFormat f) ss .ready ≡ true → (s : Store)
+    → Answered (ran tableHome tableHomes judged stored (afterFormat f) ss) s
+    → TableAnswers (ran tableHome tableHomes judged stored (afterFormat f) ss) s (noted (notes tableHome tableHomes judged stored (afterFormat f) ss))
+kept-with groups homes d f ss ok spared ready s m =
     let ts : List (List ℕ) = noted (notes tableHome tableHomes judged stored (afterFormat f) ss) in
     let t = table-kept groups homes d f ss ok spared ready in
-    table-answers (ran tableHome tableHomes judged stored (afterFormat f) ss) (storeBeside tableHome tableHomes judged stored f ss)
-    (answered-there tableHome tableHomes judged stored f ss ok ready) ts ts (t .claim) (λ writer batch mm l z. t .claim writer batch .lookup mm l z)
+    table-answers (ran tableHome tableHomes judged stored (afterFormat f) ss) s m ts ts (t .claim) (λ writer batch mm l z. t .claim writer batch .lookup mm l z)
 
 -- with a store that has too few homes for it
 few-answers : (w : World) (s : Store) → Answered w s → s .homes < tableHome + tableHomes → (ts : List (List ℕ)) → TableAnswers w s ts
@@ -86,4 +85,10 @@ few-answers w s m l ts =
     (λ writer batch mm k z. absurd (few-unfetched w s m writer tableHome tableHomes (omega arith) (omega arith) l batch z))
 
 pub bands-answer : BandsAnswer
-bands-answer = record { kept = kept-answers; few = few-answers }
+bands-answer =
+    record {
+      kept = λ groups homes d f ss ok spared ready.
+          kept-with groups homes d f ss ok spared ready (storeBeside tableHome tableHomes judged stored f ss)
+          (answered-there tableHome tableHomes judged stored f ss ok ready);
+      few = few-answers;
+    }

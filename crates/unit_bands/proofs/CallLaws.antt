@@ -9,7 +9,7 @@ use Rattle.model.specs.Bytes.{zeros}
 use Rattle.call_ask.specs.Lent.{lentAll, leavesAll}
 use Rattle.acts.specs.Many.{fetchCall, transactCall}
 use Rattle.unit_events.specs.Homes.{tableHome}
-use Rattle.unit_shared.specs.Unit.{Lent, Left, leaves, fetched}
+use Rattle.unit_shared.specs.Unit.{Lent, UnitOutcome, leaves, fetched}
 use Rattle.unit_shared.proofs.UnitLaws.{refusal, transaction, readAs, fetching}
 use Rattle.unit_bands_table.specs.Judge.{verdict, depths, judgement}
 use Rattle.unit_bands_table.specs.Packed.{Lookup, answered, pack, lookUp}

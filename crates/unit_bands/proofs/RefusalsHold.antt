@@ -6,7 +6,7 @@ use mathlib.Core.Logic.{_≢_}
 use native.Mathlib.Omega.{arith}
 use borrow.Author.Tests.{ne-eqb, lt-ltb, le-ltb}
 use Rattle.unit_events.specs.Homes.{tableHome, tableHomes}
-use Rattle.unit_shared.specs.Unit.{Lent, Left, untouched, fetched, transacted}
+use Rattle.unit_shared.specs.Unit.{Lent, UnitOutcome, untouched, fetched, transacted}
 use Rattle.unit_shared.specs.Refusals.{Refusal}
 use Rattle.unit_shared.proofs.RefusalsHold.{untouched-refuses, unit-refusals}
 use Rattle.unit_bands_table.specs.Judge.{depths, judgement}
@@ -36,10 +36,10 @@ module _ (l : Lent) (writer : ℕ) where
     rows : judgement bytes .code ≢ 0
         → (setCall l writer bytes .code ≡ judgement bytes .code) × Refusal l (judgement bytes .millimetre) (setCall l writer bytes)
     unfolding untouched
-    rows n = (ap (λ (x : Left). x .code) (turned-down n), subst (Refusal l (judgement bytes .millimetre)) (sym (turned-down n)) (untouched-refuses l (judgement bytes .code) (judgement bytes .millimetre)))
+    rows n = (ap (λ (x : UnitOutcome). x .code) (turned-down n), subst (Refusal l (judgement bytes .millimetre)) (sym (turned-down n)) (untouched-refuses l (judgement bytes .code) (judgement bytes .millimetre)))
 
     asked : judgement bytes .code ≡ 0 → setCall l writer bytes .code ≡ transacted l writer tableHome (pack bytes) .code
-    asked z = ap (λ (x : Left). x .code) (taken z)
+    asked z = ap (λ (x : UnitOutcome). x .code) (taken z)
 
     refusal : judgement bytes .code ≡ 0 → setCall l writer bytes .code ≢ 0 → Refusal l 0 (setCall l writer bytes)
     refusal z n =

@@ -11,7 +11,7 @@ use Rattle.unit_events.specs.Homes.{tableHome}
 use Rattle.unit_events.specs.Offered.{heldAfter}
 use Rattle.unit_events.specs.Folded.{noted, sets, ran, notes, stepped, Folded, Recorded, Growing}
 use Rattle.unit_events.proofs.FoldedHolds.{events-folded, events-recorded}
-use Rattle.unit_shared.specs.Unit.{Left, transacted}
+use Rattle.unit_shared.specs.Unit.{UnitOutcome, transacted}
 use Rattle.unit_shared.specs.Moments.{lentIn, Leaves}
 use Rattle.unit_shared.proofs.MomentLaws.{set-stands}
 use Rattle.unit_shared.proofs.MomentShown.{shown-there, kept-there}

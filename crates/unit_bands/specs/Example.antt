@@ -1,6 +1,6 @@
 -- A history that meets the premises of `TableKept`, so that they have a witness (G 4, D 15).
 use Prim.Native.Nat.{ℕ}
-use mathlib.Core.Bool.{Bool, false}
+use mathlib.Core.Bool.{false}
 use mathlib.Core.List.{List, [], _∷_}
 use Rattle.model.specs.Bytes.{zeros}
 use Rattle.model.specs.Effects.{Given}

@@ -1,13 +1,13 @@
 -- The table's homes in the histories of the store. "a lookup of mm ≤ 9,999 that passes the store's questions answers 11 if L has no table, else the one row
 -- of the LAST table in L that holds mm"
-use Prim.Native.Nat.{ℕ, _+_, _*_}
+use Prim.Native.Nat.{ℕ}
 use mathlib.Core.Path.{_≡_}
 use mathlib.Core.List.{List, [], _∷_}
 use mathlib.Core.Option.{Option, none, some}
 use Rattle.unit_events.specs.Homes.{tableHome, tableHomes}
 use Rattle.unit_events.specs.Folded.{AlwaysRecorded}
 use Rattle.unit_bands_table.specs.Judge.{judgement}
-use Rattle.unit_bands_table.specs.Packed.{Lookup, pack, unpack, found, lookUp}
+use Rattle.unit_bands_table.specs.Packed.{pack, unpack, found, lookUp}
 
 -- A strip of rows is judged before the store's questions, whatever the homes hold, and packed: a call that sets it reads nothing.
 unfoldable pub judged : List ℕ → List ℕ → ℕ

@@ -7,7 +7,7 @@ use mathlib.Core.Bool.{Bool, true, false}
 use mathlib.Core.List.{List, [], _∷_}
 use lib.ListN.{length}
 use Rattle.model.specs.Rights.{mayStore}
-use Rattle.model.specs.History.{Change, begins, reserves, aborts, stores, commits, flushes, Call, opening, confirm, change, service, Event, call, crash, World, Formatting, afterFormat}
+use Rattle.model.specs.History.{Change, begins, reserves, aborts, stores, commits, flushes, Call, opening, confirm, change, service, call, crash, World, Formatting, afterFormat}
 use Rattle.acts.specs.Units.{Act, plain, transacts, fetches, revises, Apart}
 use Rattle.unit_events.specs.Promises.{listIn}
 use Rattle.unit_events.specs.Folded.{Step, acts, offers, sets, stepped, AllStepsAllowed, SparedByAct, SparedByStep, SparedBySteps}

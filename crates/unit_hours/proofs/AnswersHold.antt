@@ -118,19 +118,20 @@ module _ (pump : ℕ) (p : 7 < pump) (w : World) (s : Store) (es : List Event) w
   no-services writer (suc i) batch =
       rw (le-leb 1 (suc i) (omega arith), lt-leb pump 7 p) (unfold ask servicesAnswered in refusals-on-pumps (lentIn w batch) writer pump .noPumpServices p (suc i))
 
-known-answers : (pump : ℕ) → pump ≤ 7 → (groups homes : ℕ) → pumpHome pump + 1 ≤ homes → (f : Formatting groups homes) (ss : List (Step Event))
+-- ---- in the histories of a pump, with any store by which the moment is answered
+
+pub known-with : (pump : ℕ) → pump ≤ 7 → (groups homes : ℕ) → pumpHome pump + 1 ≤ homes → (f : Formatting groups homes) (ss : List (Step Event))
     → AllStepsAllowed (pumpHome pump) 1 judged heldWith (afterFormat f) ss → SparedBySteps (pumpHome pump) 1 judged heldWith Timed (afterFormat f) ss
-    → ran (pumpHome pump) 1 judged heldWith (afterFormat f) ss .ready ≡ true
-    → PumpAnswers (ran (pumpHome pump) 1 judged heldWith (afterFormat f) ss) (storeBeside (pumpHome pump) 1 judged heldWith f ss)
-    (noted (notes (pumpHome pump) 1 judged heldWith (afterFormat f) ss)) pump
-known-answers pump p groups homes d f ss ok spared ready =
+    → ran (pumpHome pump) 1 judged heldWith (afterFormat f) ss .ready ≡ true → (s : Store) → Answered (ran (pumpHome pump) 1 judged heldWith (afterFormat f) ss) s
+    → PumpAnswers (ran (pumpHome pump) 1 judged heldWith (afterFormat f) ss) s (noted (notes (pumpHome pump) 1 judged heldWith (afterFormat f) ss)) pump
+known-with pump p groups homes d f ss ok spared ready s m =
     let w : World = ran (pumpHome pump) 1 judged heldWith (afterFormat f) ss in
     let ns = notes (pumpHome pump) 1 judged heldWith (afterFormat f) ss in
     let g = events-folded (pumpHome pump) 1 judged heldWith Timed (omega arith) (filling pump) groups homes (omega arith) f ss ok spared in
     let r = hours-recorded pump groups homes (omega arith) f ss ok spared in
     let block : List ℕ = heldAfter heldWith (zeros (64 * 1)) (noted ns) in
     let k : Represents (noted ns) block = kept-there (pumpHome pump) 1 judged heldWith Timed w ns g answerBy Represents r in
-    pump-answers w (storeBeside (pumpHome pump) 1 judged heldWith f ss) (answered-there (pumpHome pump) 1 judged heldWith f ss ok ready) (noted ns) pump p block
+    pump-answers w s m (noted ns) pump p block
     (λ writer batch. claimed (lentIn w batch) writer pump p (noted ns) block k (shown-there (pumpHome pump) 1 judged heldWith Timed w ns g ready writer batch))
     (λ writer batch z e t h. recording .size block e (recording .answers (noted ns) block e k t ∙ h))
 
@@ -138,7 +139,8 @@ pub hours-answer : HoursAnswer
 hours-answer =
     record {
       known = λ pump p groups homes d f ss ok spared ready.
-          known-answers pump p groups homes d f ss ok spared ready;
+          known-with pump p groups homes d f ss ok spared ready (storeBeside (pumpHome pump) 1 judged heldWith f ss)
+          (answered-there (pumpHome pump) 1 judged heldWith f ss ok ready);
       few = few-answers;
       unknown = λ pump p w s es. record { events = no-event pump p w s es; hours = no-hours pump p w s es; services = no-services pump p w s es };
     }

@@ -12,7 +12,7 @@ use Rattle.unit_events.specs.Homes.{pumpHome}
 use Rattle.unit_events.specs.Offered.{heldAfter}
 use Rattle.unit_events.specs.Folded.{noted, offers, ran, notes, stepped, Folded, Recorded}
 use Rattle.unit_events.proofs.FoldedHolds.{events-folded}
-use Rattle.unit_shared.specs.Unit.{Left, asJudged as judges, event}
+use Rattle.unit_shared.specs.Unit.{UnitOutcome, asJudged as judges, event}
 use Rattle.unit_shared.specs.Moments.{lentIn, Leaves}
 use Rattle.unit_shared.proofs.MomentLaws.{event-stands}
 use Rattle.unit_shared.proofs.MomentShown.{shown-there, kept-there}
@@ -25,7 +25,7 @@ use Rattle.unit_hours.specs.Histories.{BookAt, BookKept}
 use Rattle.unit_hours.proofs.Claimed.{claimed}
 
 -- a known pump's call is an event of the unit
-call-is : (w : World) (pump writer : ℕ) (e : Event) (batch : List ℕ) → pump ≤ 7
+pub call-is : (w : World) (pump writer : ℕ) (e : Event) (batch : List ℕ) → pump ≤ 7
     → event (lentIn w batch) writer (pumpHome pump) 1 (λ b. judges (judged b e) (heldWith b e)) ≡ eventCall (lentIn w batch) writer pump e
 unfolding eventCall known judge judged heldWith
 call-is w pump writer e batch p = rw (le-leb pump 7 p)

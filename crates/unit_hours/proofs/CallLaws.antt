@@ -9,7 +9,7 @@ use Rattle.model.specs.Bytes.{zeros}
 use Rattle.call_ask.specs.Lent.{lentAll}
 use Rattle.acts.specs.Many.{fetchCall}
 use Rattle.unit_events.specs.Homes.{pumpHome}
-use Rattle.unit_shared.specs.Unit.{Lent, Left, leaves, asJudged, fetched, event}
+use Rattle.unit_shared.specs.Unit.{Lent, UnitOutcome, leaves, asJudged, fetched, event}
 use Rattle.unit_shared.proofs.UnitLaws.{refusal, readAs, fetching}
 use Rattle.unit_hours_book.specs.Pump.{pumpOf}
 use Rattle.unit_hours_book.specs.declared.Pump.{Pump}
@@ -31,7 +31,7 @@ module _ (l : Lent) (writer pump : ℕ) where
   unfolding eventCall known
   event-unknown e h ec ef es = rw (lt-leb pump 7 h) (refusal l 14 0 ec ef es)
 
-  pub event-known : (e : Event) → pump ≤ 7 → {x : Left} → x ≡ event l writer (pumpHome pump) 1 (judge e) → x ≡ eventCall l writer pump e
+  pub event-known : (e : Event) → pump ≤ 7 → {x : UnitOutcome} → x ≡ event l writer (pumpHome pump) 1 (judge e) → x ≡ eventCall l writer pump e
   unfolding eventCall known
   event-known e h q = rw (le-leb pump 7 h) q
 

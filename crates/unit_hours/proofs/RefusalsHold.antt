@@ -7,7 +7,7 @@ use mathlib.Core.Logic.{_≢_}
 use native.Mathlib.Omega.{arith}
 use borrow.Author.Tests.{ne-eqb, le-leb, lt-leb}
 use Rattle.unit_events.specs.Homes.{pumpHome}
-use Rattle.unit_shared.specs.Unit.{Lent, Left, untouched, fetched, revised, afterReading, event}
+use Rattle.unit_shared.specs.Unit.{Lent, UnitOutcome, untouched, fetched, revised, afterReading, event}
 use Rattle.unit_shared.specs.Refusals.{Refusal}
 use Rattle.unit_shared.proofs.RefusalsHold.{untouched-refuses, unit-refusals}
 use Rattle.unit_hours_book.specs.Events.{Event}

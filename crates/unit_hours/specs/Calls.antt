@@ -6,7 +6,7 @@ use mathlib.Core.List.{List}
 use lib.Dec.{eqb, leb}
 use Rattle.model.specs.Calls.{Outcome}
 use Rattle.unit_events.specs.Homes.{pumpHome}
-use Rattle.unit_shared.specs.Unit.{Lent, Left, untouched, Judged, asJudged, fetched, event}
+use Rattle.unit_shared.specs.Unit.{Lent, UnitOutcome, untouched, Judged, asJudged, fetched, event}
 use Rattle.unit_hours_book.specs.Pump.{pumpOf}
 use Rattle.unit_hours_book.specs.declared.Pump.{Pump}
 use Rattle.unit_hours_book.specs.Events.{Event, applied}
@@ -24,7 +24,7 @@ unfoldable pub judge : Event → List ℕ → Judged
 judge e block = asJudged (applied block e .code) (applied block e .block)
 
 -- "14 comes before the store's questions, 15 and 16 after its 1, 2, 4 and 5 and before the rest"
-unfoldable pub eventCall : Lent → ℕ → ℕ → Event → Left
+unfoldable pub eventCall : Lent → ℕ → ℕ → Event → UnitOutcome
 eventCall l writer pump e = cond (known pump) (event l writer (pumpHome pump) 1 (judge e)) (untouched l 14 0)
 
 -- what the calls that only read tell: the answer and two figures, zeros if it is refused

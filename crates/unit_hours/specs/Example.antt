@@ -1,6 +1,5 @@
 -- A history that meets the premises of `BookKept`, so that they have a witness (G 4, D 17).
-use Prim.Native.Nat.{ℕ}
-use mathlib.Core.Bool.{Bool, false}
+use mathlib.Core.Bool.{false}
 use mathlib.Core.List.{List, [], _∷_}
 use Rattle.model.specs.Bytes.{zeros}
 use Rattle.model.specs.Effects.{Given}

@@ -2,7 +2,6 @@
 -- after its 1, 2, 4 and 5 and before the rest"; and a refusal of the store is told as it is.
 use Prim.Native.Nat.{ℕ, _≤_, _<_}
 use mathlib.Core.Path.{_≡_}
-use mathlib.Core.List.{List}
 use mathlib.Core.Logic.{_≢_}
 use Rattle.unit_events.specs.Homes.{pumpHome}
 use Rattle.unit_shared.specs.Unit.{Lent, fetched, revised}

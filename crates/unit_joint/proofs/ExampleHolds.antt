@@ -1,49 +1,33 @@
--- The history of specs/Example meets the premises of `JointKept` and of `ConfirmedStays`, which therefore say something of it; and the list at its end, by
--- computation.
-use Prim.Native.Nat.{ℕ, suc, _+_, _*_, _/_, _≤_}
-use mathlib.Core.Path.{_≡_, refl}
-use mathlib.Core.Logic.{inl, inr}
+-- The history of specs/Example meets the premises of `JointKept`, `DoneIsLast` and `ConfirmedStays`, which therefore say something of it; the list at its end, and
+-- the ticket that the confirm just reaches, by computation.
+use Prim.Native.Nat.{ℕ, suc, _+_, _/_, _≤_}
+use mathlib.Core.Path.{_≡_, refl, subst}
+use mathlib.Core.Logic.{inl}
 use mathlib.Core.Bool.{Bool, true}
 use mathlib.Core.List.{List, [], _∷_, _++_}
-use mathlib.Core.Option.{Option, none, some}
+use mathlib.Core.Option.{some}
 use native.Mathlib.Omega.{arith}
 use lib.ListN.{length, take, length-replicate}
-use borrow.Author.Tests.{leb-true}
 use Rattle.model.specs.Calls.{formatCall}
+use Rattle.model.specs.Crash.{fences}
 use Rattle.model.specs.History.{confirm, World, Formatting, afterFormat, emptyStore, ends}
 use Rattle.model.proofs.examples.Computing.{all-definitions}
-use Rattle.model.specs.State.{listedOf, setListed, listSign, setListSign, freshNumbers}
-use Rattle.model.specs.Newest.{carryListed}
-use Rattle.model.specs.Rights.{forHome, shownAt, listBy, storeList, readList, ofList, isList, inRange, inRanges, mayStore, mayRead, sameListed, listMoved, signFor, signIf, keepList, signedList, storeRight, readRight}
-use Rattle.model.specs.Questions.{storeAllowed, readAllowed}
-use Rattle.acts.specs.Many.{blocksLent, lentOn, andThen, storedFirst, transactEffect, blocksRead, fetchEffect, blocksRight, homesKnown, allOf, mayStoreAll, mayReadAll, roomForAll, askHomes, fetchAnswer, reviseAnswer, transactAnswer, fetchCall, reviseCall, transactCall}
-use Rattle.acts.specs.Units.{transactEnds, fetchEnds, reviseEnds, feedStores, feedTransact, leftBy, act, acted, relabel}
+use Rattle.theorems.specs.ActsAnswer.{storeAfter}
 use Rattle.theorems.proofs.steps.FormatRuns.{after-format}
-use Rattle.unit_events.specs.Folded as unit
-use Rattle.unit_events.specs.Folded.{first, readFor, eventAnswer, storing}
-use Rattle.unit_bands_table.specs.Rows.{row, rows, holds, count, place}
-use Rattle.unit_bands_table.specs.Judge.{depths, fit, allFit, sound, lowest, uncovered, doubled, overlaps, coverage, judgement}
-use Rattle.unit_bands_table.specs.Packed.{pack}
 use Rattle.unit_bands_table.specs.Stored as table
-use Rattle.unit_hours_book.specs.Pump.{pumpOf, flag, blockOf}
 use Rattle.unit_hours_book.specs.Events.{startAt}
-use Rattle.unit_hours_book.specs.Events as hours-events
 use Rattle.unit_hours_book.specs.Guarantees as hours
-use Rattle.unit_hours_book.specs.Stored as pumps
-use Rattle.unit_alarms_list.specs.Alarm.{alarmAt, alarmBytes, classKnown, goesBefore, graver}
-use Rattle.unit_alarms_list.specs.OpenAlarms.{among, without, gravestFrom, gravest, told, alarmsFrom, limited, openOf, alarmsOf, keptOf, listBytes, sealed, packed}
-use Rattle.unit_alarms_list.specs.Events as alarm-events
 use Rattle.unit_alarms_list.specs.Guarantees as alarms
-use Rattle.unit_alarms_list.specs.Stored as panel
-use Rattle.unit_joint.specs.Joint.{Step, actsOf, stepped, ran, Done, tableSet, pumpDone, noteOf, notesFrom, notes, AllAllowed, Apart, AllFit, asks, writerOf, homeOf, blocksOf, batchOf, IsDone, ticketOf, NoCuts, confirms}
+use Rattle.unit_joint.specs.Joint.{Step, stepped, ran, actsAll, pumpDone, noteOf, notes, JointAllowed, JointFits, IsDone, ticketOf, NoCuts, confirms}
 use Rattle.unit_joint.specs.Kept.{JointAt}
-use Rattle.unit_joint.specs.Example.{blank, blankCopies, opens, oneBand, everyHome, twoWriters, before, starts, between, later, history, kept}
-use Rattle.unit_joint.proofs.NotesKept.{confirmed-stays}
+use Rattle.unit_joint.specs.Example.{blank, blankCopies, opens, oneBand, allHomes, twoWriters, before, starts, between, busy, cuts, afterwards, later, history, kept, ticket}
+use Rattle.unit_joint.proofs.NotesKept.{done-is-last, confirmed-stays}
 use Rattle.unit_joint.proofs.JointHolds.{joint-kept}
+use Rattle.unit_joint.proofs.UnitsComputing.{unit-definitions}
 
 -- a name that unfolds every definition below
 unfoldable computed : Bool
-unfolding all-definitions listedOf setListed freshNumbers carryListed listSign setListSign sameListed listMoved signFor signIf keepList signedList storeRight readRight forHome shownAt listBy storeList readList ofList isList inRange inRanges mayStore mayRead storeAllowed readAllowed blocksLent lentOn andThen storedFirst transactEffect blocksRead fetchEffect blocksRight homesKnown allOf mayStoreAll mayReadAll roomForAll askHomes fetchAnswer reviseAnswer transactAnswer fetchCall reviseCall transactCall transactEnds fetchEnds reviseEnds feedStores feedTransact leftBy act acted relabel first readFor eventAnswer storing unit.actsOf row rows holds count place depths fit allFit sound lowest uncovered doubled overlaps coverage judgement pack table.judged table.stored pumpOf flag blockOf hours-events.late hours-events.totalAt hours-events.answer hours-events.after hours-events.settled hours-events.applied hours.heldWith pumps.judged alarmAt alarmBytes classKnown goesBefore graver among without gravestFrom gravest told alarmsFrom limited openOf alarmsOf keptOf listBytes sealed packed alarm-events.answer alarm-events.after alarm-events.settled alarm-events.applied alarms.heldWith panel.judged actsOf stepped ran noteOf notesFrom notes asks writerOf homeOf blocksOf batchOf ticketOf blank blankCopies opens oneBand everyHome twoWriters before starts between later kept
+unfolding unit-definitions blank blankCopies opens oneBand allHomes twoWriters before starts between busy cuts afterwards kept
 computed = true
 
 format-done : formatCall blankCopies .code ≡ 0
@@ -68,10 +52,44 @@ pub kept-there : notes (emptyStore 4 30) history ≡ kept
 unfolding computed
 kept-there = refl
 
--- the premises
-met : AllAllowed (emptyStore 4 30) history
+-- the premises, up to the cut, of the cut, and after it
+abbrev front : List Step
+front = before ++ (starts ∷ (between ++ (confirms ∷ busy)))
+
+met-front : JointAllowed (emptyStore 4 30) front
 unfolding computed
-met = (refl, (refl, (refl, (refl, (refl, (refl, (refl, (refl, (refl, (refl, (refl, (refl, ((leb-true _ _ refl, leb-true _ _ refl), (refl, (refl, (refl, tt))))))))))))))))
+met-front = (refl, (refl, (refl, (refl, (refl, (refl, (refl, (refl, (refl, (refl, (refl, (refl, (refl, (refl, (refl, tt)))))))))))))))
+
+abbrev atCut : World
+atCut = ran (emptyStore 4 30) front
+
+passed-there : atCut .passed ≡ 4
+unfolding computed
+passed-there = refl
+
+fences-there : fences (atCut .pending) ≡ 4
+unfolding computed
+fences-there = refl
+
+met-after : JointAllowed (stepped atCut cuts) afterwards
+unfolding computed
+met-after = (refl, (refl, (refl, tt)))
+
+met-cut : JointAllowed atCut (cuts ∷ afterwards)
+unfolding cuts
+met-cut = ((omega (arith, passed-there), omega (arith, fences-there)), met-after)
+
+allowed-join : (ss ts : List Step) (w : World) → JointAllowed w ss → JointAllowed (ran w ss) ts → JointAllowed w (ss ++ ts)
+unfolding ran
+allowed-join [] ts w a b = b
+allowed-join (s ∷ ss) ts w a b = (a .0, allowed-join ss ts (stepped w s) (a .1) b)
+
+same-list : front ++ (cuts ∷ afterwards) ≡ history
+unfolding before between busy
+same-list = refl
+
+met : JointAllowed (emptyStore 4 30) history
+met = subst (JointAllowed (emptyStore 4 30)) same-list (allowed-join front (cuts ∷ afterwards) (emptyStore 4 30) met-front met-cut)
 
 ready-there : ran (emptyStore 4 30) history .ready ≡ true
 unfolding computed
@@ -86,37 +104,54 @@ two-homes : length (twoWriters ++ twoWriters) / 64 ≡ 2
 unfolding computed
 two-homes = refl
 
-fits : AllFit (afterFormat format) history
-unfolding before starts between later opens hours.secondOf alarms.Typed
-fits = (record { fromTable = λ z. tt; fromPumps = λ p l z. tt; fromAlarms = λ z. tt }, (record { fromTable = λ z. tt; fromPumps = λ p l z. tt; fromAlarms = λ z. tt }, (band-accepted, ((omega arith, omega arith), ((omega arith, omega arith), (record { fromTable = λ z. inl (omega (arith, two-homes)); fromPumps = λ p l z. inl (omega (arith, two-homes)); fromAlarms = λ z. inl (omega (arith, two-homes)) }, (record { fromTable = λ z. tt; fromPumps = λ p l z. tt; fromAlarms = λ z. tt }, (record { fromTable = λ z. tt; fromPumps = λ p l z. tt; fromAlarms = λ z. tt }, (record { fromTable = λ z. tt; fromPumps = λ p l z. tt; fromAlarms = λ z. tt }, (record { fromTable = λ z. tt; fromPumps = λ p l z. tt; fromAlarms = λ z. tt }, ((omega arith, omega arith), ((omega arith, omega arith), (record { fromTable = λ z. tt; fromPumps = λ p l z. tt; fromAlarms = λ z. tt }, (record { fromTable = λ z. tt; fromPumps = λ p l z. tt; fromAlarms = λ z. tt }, ((omega arith, omega arith), (omega arith, tt))))))))))))))))
+fits : JointFits (afterFormat format) history
+unfolding before starts between busy cuts afterwards opens hours.secondOf alarms.Typed
+fits = (record { fromTable = λ z. tt; fromPumps = λ p l z. tt; fromAlarms = λ z. tt }, (record { fromTable = λ z. tt; fromPumps = λ p l z. tt; fromAlarms = λ z. tt }, (band-accepted, ((omega arith, omega arith), (record { fromTable = λ z. inl (omega (arith, two-homes)); fromPumps = λ p l z. inl (omega (arith, two-homes)); fromAlarms = λ z. inl (omega (arith, two-homes)) }, ((omega arith, omega arith), ((omega arith, omega arith), ((omega arith, omega arith), ((omega arith, omega arith), (record { fromTable = λ z. tt; fromPumps = λ p l z. tt; fromAlarms = λ z. tt }, (record { fromTable = λ z. tt; fromPumps = λ p l z. tt; fromAlarms = λ z. tt }, (record { fromTable = λ z. tt; fromPumps = λ p l z. tt; fromAlarms = λ z. tt }, (record { fromTable = λ z. tt; fromPumps = λ p l z. tt; fromAlarms = λ z. tt }, ((omega arith, omega arith), ((omega arith, omega arith), (record { fromTable = λ z. tt; fromPumps = λ p l z. tt; fromAlarms = λ z. tt }, (record { fromTable = λ z. tt; fromPumps = λ p l z. tt; fromAlarms = λ z. tt }, ((omega arith, omega arith), (omega arith, tt)))))))))))))))))))
 
+-- pump 0's start is done, and its ticket is the confirm's figure
 done-there : IsDone (ran (emptyStore 4 30) before) starts
 unfolding computed
-done-there = record { asked = refl; stored = refl }
+done-there = refl
+
+ticket-there : ticketOf (ran (emptyStore 4 30) before) starts ≡ ticket
+unfolding computed
+ticket-there = refl
 
 calm : NoCuts between
 unfolding between
-calm = (tt, (tt, (tt, tt)))
+calm = (tt, (tt, tt))
 
 confirm-there : ends (ran (stepped (ran (emptyStore 4 30) before) starts) between) confirm .code ≡ 0
 unfolding computed
 confirm-there = refl
 
-ticket-there : ticketOf (ran (emptyStore 4 30) before) starts ≤ ends (ran (stepped (ran (emptyStore 4 30) before) starts) between) confirm .figure
+pub figure-there : ends (ran (stepped (ran (emptyStore 4 30) before) starts) between) confirm .figure ≡ ticket
 unfolding computed
-ticket-there = leb-true _ _ refl
+figure-there = refl
+
+reached : ticketOf (ran (emptyStore 4 30) before) starts ≤ ends (ran (stepped (ran (emptyStore 4 30) before) starts) between) confirm .figure
+reached = omega (arith, ticket-there, figure-there)
 
 starts-noted : noteOf starts ≡ some (pumpDone 0 (startAt 10))
 unfolding noteOf starts
 starts-noted = refl
 
--- the theorem says this of it: the start is there to stay
+met-first : JointAllowed (emptyStore 4 30) (before ++ (starts ∷ []))
+unfolding computed
+met-first = (refl, (refl, (refl, (refl, (refl, (refl, (refl, (refl, tt))))))))
+
+-- the theorems say this of it: once it is done, the start is the last of the list
+pub start-last : notes (afterFormat format) (before ++ (starts ∷ [])) ≡ notes (afterFormat format) before ++ (some (pumpDone 0 (startAt 10)) ∷ [])
+start-last =
+    done-is-last 4 30 format before starts (pumpDone 0 (startAt 10)) (rw (after-format format) met-first) starts-noted (rw (after-format format) done-there)
+
+-- once it is confirmed, it is there to stay
 pub start-stays : take (suc (length (notes (afterFormat format) before))) (notes (afterFormat format) history)
     ≡ notes (afterFormat format) before ++ (some (pumpDone 0 (startAt 10)) ∷ [])
 start-stays =
     confirmed-stays 4 30 format before starts between later (pumpDone 0 (startAt 10)) (rw (after-format format) met) starts-noted
-    (rw (after-format format) done-there) calm (rw (after-format format) confirm-there) (rw (after-format format) ticket-there)
+    (rw (after-format format) done-there) calm (rw (after-format format) confirm-there) (rw (after-format format) reached)
 
--- and this: every unit tells and answers by its own of the list
-pub joint-there : JointAt (ran (afterFormat format) history) (notes (afterFormat format) history)
-joint-there = joint-kept 4 30 (omega arith) format history (rw (after-format format) met) fits (rw (after-format format) ready-there)
+-- and every unit tells and answers by its own of the list
+pub joint-there : JointAt 30 (ran (afterFormat format) history) (storeAfter format (actsAll (afterFormat format) history)) (notes (afterFormat format) history)
+joint-there = joint-kept 4 30 format history (rw (after-format format) met) fits (rw (after-format format) ready-there)

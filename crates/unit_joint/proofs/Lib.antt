@@ -1,3 +1,4 @@
+pub mod UnitCalls
 pub mod CommitsKept
 pub mod ActsKeep
 pub mod NotesKept
@@ -5,4 +6,7 @@ pub mod Views
 pub mod UnitViews
 pub mod JointHolds
 pub mod IsolatedHolds
+pub mod UnitsComputing
 pub mod ExampleHolds
+pub mod HiddenUnitsHold
+pub mod FewHomesHold

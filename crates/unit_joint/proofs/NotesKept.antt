@@ -1,32 +1,32 @@
 -- The list of notes beside the book's commits in a joint history: as long as these, with a done event last; and its front up to a confirmed one stays.
 -- Assumes nothing.
-use Prim.Native.Nat.{ℕ, zero, suc, _+_, _*_, _≤_, _<_}
+use Prim.Native.Nat.{ℕ, zero, suc, _+_, _*_, _≤_}
 use mathlib.Core.Path.{_≡_, refl, sym, ap, _∙_, subst}
 use mathlib.Core.Bool.{Bool, true, false, cond}
 use mathlib.Core.List.{List, [], _∷_, _++_}
-use mathlib.Core.Option.{Option, none, some}
+use mathlib.Core.Option.{Option, some}
 use native.Mathlib.Omega.{arith}
 use lib.Dec.{eqb}
 use lib.ListN.{length, take, length-append}
 use lib.Seq.{length-take-le, take-all, take-append-le}
-use borrow.Author.Tests.{eq-eqb, eqb-true, eqb-false, ne-eqb}
+use borrow.Author.Tests.{eqb-true, eqb-false, ne-eqb}
 use Rattle.model.specs.Bytes.{zeros}
-use Rattle.model.specs.Book.{Commit, withCommits, empty}
-use Rattle.model.specs.History.{Call, confirm, Event, call, crash, World, Formatting, afterFormat, unopened, ends, feed, afterDone, afterCall, step}
-use Rattle.abstract_store.specs.Store.{newStore}
-use Rattle.acts.specs.Units.{Act, plain, transacts, fetches, revises, transactEnds, act, acted, ActAllowed, relabel}
+use Rattle.model.specs.Book.{withCommits, empty}
+use Rattle.model.specs.History.{confirm, call, crash, World, Formatting, afterFormat, unopened, ends, feed, afterDone, afterCall, step}
+use Rattle.abstract_store.specs.Store.{newStore, Reply, replyOf}
+use Rattle.acts.specs.Units.{Act, plain, transacts, fetches, revises, act, acted, ActAllowed, relabel}
 use Rattle.theorems.proofs.store.Reached.{begins}
 use Rattle.theorems.proofs.many.ActsHold.{Somewhere, act-somewhere, fetch-stays, revise-stays}
-use Rattle.unit_events.specs.Homes.{tableHome, tableHomes, pumpHome, alarmHome, alarmHomes}
+use Rattle.unit_events.specs.Homes.{pumpHome, alarmHome, alarmHomes}
 use Rattle.unit_events.specs.Folded as unit
-use Rattle.unit_events.specs.Folded.{offers, sets, readFor, eventAnswer, storing}
+use Rattle.unit_events.specs.Folded.{offers, readFor, eventAnswer, storing}
 use Rattle.unit_events.proofs.PromisesHold.{refusals-stay}
-use Rattle.unit_bands_table.specs.Stored as table
 use Rattle.unit_hours_book.specs.Guarantees as hours
 use Rattle.unit_hours_book.specs.Stored as pumps
 use Rattle.unit_alarms_list.specs.Guarantees as alarms
 use Rattle.unit_alarms_list.specs.Stored as panel
-use Rattle.unit_joint.specs.Joint.{Step, acts, setsTable, pumpEvent, alarmEvent, actsOf, stepped, ran, Done, tableSet, pumpDone, alarmDone, noteOf, notesFrom, notes, StepAllowed, AllAllowed, asks, writerOf, homeOf, blocksOf, batchOf, IsDone, ticketOf, DoneIsLast, NoCut, NoCuts, confirms, ConfirmedStays}
+use Rattle.unit_joint.specs.Joint.{Step, acts, setsTable, pumpEvent, alarmEvent, actsOf, stepped, ran, Done, tableSet, pumpDone, alarmDone, noteOf, notesFrom, notes, StepAllowed, JointAllowed, IsDone, ticketOf, DoneIsLast, NoCut, NoCuts, confirms, ConfirmedStays}
+use Rattle.unit_joint.proofs.UnitCalls.{asks, writerOf, homeOf, blocksOf, batchOf, storingEnds, DoneBy, done-by}
 use Rattle.unit_joint.proofs.CommitsKept.{At, Owed, Ticket, at-inside, at-last, confirmed, call-at, ticket-steady}
 use Rattle.unit_joint.proofs.ActsKeep.{Added, transact-adds, act-grows, act-owed, transact-ticket, ticket-is}
 
@@ -161,7 +161,7 @@ unfolding ran notesFrom
 notes-append [] ts w ns = refl
 notes-append (s ∷ ss) ts w ns = notes-append ss ts (stepped w s) (relabel (stepped w s) ns (noteOf s))
 
-pub steps-split : (ss ts : List Step) (w : World) → AllAllowed w (ss ++ ts) → AllAllowed w ss × AllAllowed (ran w ss) ts
+pub steps-split : (ss ts : List Step) (w : World) → JointAllowed w (ss ++ ts) → JointAllowed w ss × JointAllowed (ran w ss) ts
 unfolding ran
 steps-split [] ts w a = (tt, a)
 steps-split (s ∷ ss) ts w a = let k = steps-split ss ts (stepped w s) (a .1) in ((a .0, k .0), k .1)
@@ -175,7 +175,7 @@ pub step-goes : (w : World) (ns : List (Option Done)) (s : Step) → Going w ns 
 step-goes w ns s g ok =
     let k = step-is w s ok in record { somewhere = step-somewhere w s (g .somewhere) k; many = many-step w s ns (noteOf s) k (g .many) }
 
-pub all-go : (ss : List Step) (w : World) (ns : List (Option Done)) → Going w ns → AllAllowed w ss → Going (ran w ss) (notesFrom w ns ss)
+pub all-go : (ss : List Step) (w : World) (ns : List (Option Done)) → Going w ns → JointAllowed w ss → Going (ran w ss) (notesFrom w ns ss)
 unfolding ran notesFrom
 all-go [] w ns g ok = g
 all-go (s ∷ ss) w ns g ok = all-go ss (stepped w s) (relabel (stepped w s) ns (noteOf s)) (step-goes w ns s g (ok .0)) (ok .1)
@@ -185,7 +185,7 @@ starts {groups} {homes} f = record { somewhere = (newStore groups homes, begins 
 
 -- ---- the front up to an owed commit stays; up to any, while there is no cut
 
-front-owed : (ss : List Step) (w : World) (ns : List (Option Done)) (n : ℕ) → Going w ns → AllAllowed w ss → At Owed n (w .book .commits)
+front-owed : (ss : List Step) (w : World) (ns : List (Option Done)) (n : ℕ) → Going w ns → JointAllowed w ss → At Owed n (w .book .commits)
     → take (suc n) (notesFrom w ns ss) ≡ take (suc n) ns
 unfolding notesFrom
 front-owed [] w ns n g ok a = refl
@@ -196,7 +196,7 @@ front-owed (s ∷ ss) w ns n g ok a =
     ∙ front-step (stepped w s) ns (noteOf s) (suc n) (let m = g .many in omega (arith, at-inside Owed n (w .book .commits) a))
     (omega (arith, at-inside Owed n (stepped w s .book .commits) b))
 
-front-calm : (ss : List Step) (w : World) (ns : List (Option Done)) (n t : ℕ) → Going w ns → AllAllowed w ss → NoCuts ss → At (Ticket t) n (w .book .commits)
+front-calm : (ss : List Step) (w : World) (ns : List (Option Done)) (n t : ℕ) → Going w ns → JointAllowed w ss → NoCuts ss → At (Ticket t) n (w .book .commits)
     → (take (suc n) (notesFrom w ns ss) ≡ take (suc n) ns) × At (Ticket t) n (ran w ss .book .commits)
 unfolding notesFrom ran
 front-calm [] w ns n t g ok c a = (refl, a)
@@ -212,11 +212,22 @@ front-calm (s ∷ ss) w ns n t g ok c a =
 -- ---- a done event
 
 module _ (w : World) (ns : List (Option Done)) (s : Step) (d : Done) (g : Going w ns) (q : noteOf s ≡ some d) (done : IsDone w s) where
+  done-so : DoneBy w s
+  done-so = done-by w s d q done
+
+  stored-done : storingEnds w s .code ≡ 0
+  unfolding replyOf
+  stored-done = sym (ap (λ (x : Reply). x .code) (done-so .told)) ∙ done
+
+  same-ticket : storingEnds w s .figure ≡ ticketOf w s
+  unfolding replyOf
+  same-ticket = sym (ap (λ (x : Reply). x .figure) (done-so .told))
+
   added : Added (w .book .commits) (stepped w s .book .commits) (ticketOf w s)
-  unfolding ticketOf
   added =
-      subst (λ (u : World). Added (w .book .commits) (u .book .commits) (transactEnds w (writerOf s) (homeOf s) (blocksOf w s) (batchOf s) .figure))
-      (sym (unit-done w s d q (done .asked))) (transact-adds w (writerOf s) (homeOf s) (blocksOf w s) (batchOf s) (done .stored))
+      subst (Added (w .book .commits) (stepped w s .book .commits)) same-ticket
+      (subst (λ (u : World). Added (w .book .commits) (u .book .commits) (storingEnds w s .figure)) (sym (unit-done w s d q (done-so .asked)))
+      (transact-adds w (writerOf s) (homeOf s) (blocksOf w s) (batchOf s) stored-done))
 
   one-more : length (stepped w s .book .commits) ≡ length ns + 1
   one-more = let m = g .many in omega (arith, ap length (added .is), length-append (w .book .commits) (added .last ∷ []))
@@ -232,8 +243,9 @@ module _ (w : World) (ns : List (Option Done)) (s : Step) (d : Done) (g : Going 
       (subst (At (Ticket (ticketOf w s)) (length (w .book .commits))) (sym (added .is)) (at-last (Ticket (ticketOf w s)) (w .book .commits) (added .last) (added .has)))
 
   positive : w .ready ≡ true → 1 ≤ ticketOf w s
-  unfolding ticketOf
-  positive ready = let k = g .somewhere in ticket-is w (k .0) (k .1) ready (writerOf s) (homeOf s) (blocksOf w s) (batchOf s) (done .stored)
+  positive ready =
+      let k = g .somewhere in
+      subst (λ (n : ℕ). 1 ≤ n) same-ticket (ticket-is w (k .0) (k .1) ready (writerOf s) (homeOf s) (blocksOf w s) (batchOf s) stored-done)
 
 unit-ready : (w : World) (s : Step) (d : Done) → noteOf s ≡ some d → StepAllowed w s → w .ready ≡ true
 unfolding noteOf
@@ -272,7 +284,7 @@ unfolding notesFrom
 more-notes w ns s ss = refl
 
 module _ (w : World) (ns : List (Option Done)) (g : Going w ns) (s : Step) (between later : List Step) (d : Done)
-    (ok : AllAllowed w (s ∷ (between ++ (confirms ∷ later)))) (q : noteOf s ≡ some d) (done : IsDone w s) (calm : NoCuts between) where
+    (ok : JointAllowed w (s ∷ (between ++ (confirms ∷ later)))) (q : noteOf s ≡ some d) (done : IsDone w s) (calm : NoCuts between) where
   abbrev n : ℕ
   n = length ns
 
@@ -294,7 +306,7 @@ module _ (w : World) (ns : List (Option Done)) (g : Going w ns) (s : Step) (betw
   g₁ : Going w₁ ns₁
   g₁ = step-goes w ns s g (ok .0)
 
-  parts : AllAllowed w₁ between × AllAllowed w₂ (confirms ∷ later)
+  parts : JointAllowed w₁ between × JointAllowed w₂ (confirms ∷ later)
   parts = steps-split between (confirms ∷ later) w₁ (ok .1)
 
   g₂ : Going w₂ ns₂

@@ -25,7 +25,8 @@ use Rattle.unit_hours_book.proofs.StoredHolds as pump-laws
 use Rattle.unit_alarms_list.specs.Guarantees as alarms
 use Rattle.unit_alarms_list.specs.Stored as panel
 use Rattle.unit_alarms_list.proofs.StoredHolds as panel-laws
-use Rattle.unit_joint.specs.Joint.{Step, acts, setsTable, pumpEvent, alarmEvent, actsOf, stepped, Done, tableSet, pumpDone, alarmDone, noteOf, ofTable, ofPump, ofAlarms, asks, homeOf, blocksOf}
+use Rattle.unit_joint.specs.Joint.{Step, acts, setsTable, pumpEvent, alarmEvent, actsOf, stepped, Done, tableSet, pumpDone, alarmDone, noteOf, ofTable, ofPump, ofAlarms}
+use Rattle.unit_joint.proofs.UnitCalls.{asks, homeOf, blocksOf}
 use Rattle.unit_joint.proofs.Views.{StepsViewed, ViewedStep, own-step, act-step, other-step}
 
 first-zero : (a b : ℕ) → first a b ≡ 0 → b ≡ 0

@@ -14,7 +14,8 @@ use Rattle.model.specs.History.{World}
 use Rattle.acts.specs.Units.{Act, transacts, act, acted, ActAllowed, relabel, Apart}
 use Rattle.unit_events.specs.Folded as unit
 use Rattle.unit_events.specs.Folded.{acts as actsIn}
-use Rattle.unit_joint.specs.Joint.{Step, acts, stepped, ran, actsOf, Done, noteOf, notesFrom, StepAllowed, AllAllowed, StepFits, AllFit, asks, writerOf, homeOf, blocksOf, batchOf}
+use Rattle.unit_joint.specs.Joint.{Step, acts, stepped, ran, actsOf, Done, noteOf, notesFrom, StepAllowed, JointAllowed, StepFits, JointFits}
+use Rattle.unit_joint.proofs.UnitCalls.{asks, homeOf, blocksOf}
 use Rattle.unit_joint.proofs.NotesKept.{storesBy, unit-done, unit-refused, Going, step-goes}
 
 module _ {E : Type 0} (home n : ℕ) (judge : List ℕ → E → ℕ) (apply : List ℕ → E → List ℕ) (Fit : E → Type 0) (proj : Option Done → Option E) where
@@ -145,7 +146,7 @@ module _ {E : Type 0} (home n : ℕ) (judge : List ℕ → E → ℕ) (apply : L
   abbrev pub StepsViewed : Type 0
   StepsViewed = (w : World) (ns : List (Option Done)) (s : Step) → length ns ≡ length (w .book .commits) → StepAllowed w s → StepFits w s → ViewedStep w ns s
 
-  pub all-viewed : StepsViewed → (ss : List Step) (w : World) (ns : List (Option Done)) → Going w ns → AllAllowed w ss → AllFit w ss
+  pub all-viewed : StepsViewed → (ss : List Step) (w : World) (ns : List (Option Done)) → Going w ns → JointAllowed w ss → JointFits w ss
       → Viewed w (ran w ss) ns (notesFrom w ns ss)
   unfolding ran notesFrom
   all-viewed view [] w ns g ok f = record { steps = []; world = none-ran w; allowed = tt; spared = tt; notes = none-noted w (map proj ns) }

@@ -1,6 +1,6 @@
--- A history with all units that meets the premises of `JointKept` and of `ConfirmedStays`, so that they have a witness (G 4, D 30).
+-- A history with all units that meets the premises of `JointKept`, of `DoneIsLast` and of `ConfirmedStays`, so that they have a witness (G 4, D 30).
 use Prim.Native.Nat.{ℕ}
-use mathlib.Core.Bool.{Bool, false}
+use mathlib.Core.Bool.{false}
 use mathlib.Core.List.{List, [], _∷_, _++_}
 use mathlib.Core.Option.{Option, none, some}
 use Rattle.model.specs.Bytes.{zeros, bytes}
@@ -29,34 +29,50 @@ unfoldable pub oneBand : List ℕ
 oneBand = 0 ∷ 0 ∷ 15 ∷ 39 ∷ 2 ∷ []
 
 -- a list that lets writers 0 to 3 store to and read every home
-unfoldable pub everyHome : List ℕ
-everyHome = bytes 2 0 ++ (bytes 2 30 ++ zeros 12)
+unfoldable pub allHomes : List ℕ
+allHomes = bytes 2 0 ++ (bytes 2 30 ++ zeros 12)
 
 unfoldable pub twoWriters : List ℕ
-twoWriters = everyHome ++ (everyHome ++ (everyHome ++ everyHome))
+twoWriters = allHomes ++ (allHomes ++ (allHomes ++ allHomes))
 
--- Writer 5 is promised two places, and a table is set; pump 0 starts.
+-- Writer 5 is promised two places; a table is set, an alarm comes, the list is committed, and pumps 5 and 6 start.
 unfoldable pub before : List Step
-before = opens ∷ acts (plain (call (reserve 5 2))) ∷ setsTable 0 oneBand room ∷ []
+before =
+    opens ∷ acts (plain (call (reserve 5 2))) ∷ setsTable 0 oneBand room ∷ alarmEvent 2 (arrival (alarm 7 1 200)) room
+    ∷ acts (transacts 0 8 (twoWriters ++ twoWriters) room) ∷ pumpEvent 3 5 (startAt 4) room ∷ pumpEvent 3 6 (startAt 6) room ∷ []
 
+-- Pump 0 starts. Its commit takes a group's seventh place, so that its ticket is the figure of the confirm after the next flush.
 unfoldable pub starts : Step
 starts = pumpEvent 1 0 (startAt 10) room
 
--- an alarm comes, a list is committed, and all of it is flushed
+-- a start of a running pump is refused; all is flushed
 unfoldable pub between : List Step
-between = alarmEvent 2 (arrival (alarm 7 1 200)) room ∷ acts (transacts 0 8 (twoWriters ++ twoWriters) room) ∷ acts (plain (call (flush room))) ∷ []
+between = pumpEvent 1 0 (startAt 12) room ∷ acts (plain (call (flush room))) ∷ []
 
 -- After the confirm a round is begun and moved on by two homes; the pump stops and pump 3 starts, which the cut takes. After it the pump stops again, and an alarm
 -- that is not open does not clear.
-unfoldable pub later : List Step
-later =
-    acts (plain (call beginRound)) ∷ acts (plain (call (stepRound 2 room))) ∷ pumpEvent 1 0 (stopAt 60) room ∷ pumpEvent 3 3 (startAt 70) room
-    ∷ acts (plain (crash 4 (λ i. false))) ∷ opens ∷ pumpEvent 1 0 (stopAt 99) room ∷ alarmEvent 2 (clearing 9) room ∷ []
+unfoldable pub busy : List Step
+busy =
+    acts (plain (call beginRound)) ∷ acts (plain (call (stepRound 2 room))) ∷ pumpEvent 1 0 (stopAt 60) room ∷ pumpEvent 3 3 (startAt 70) room ∷ []
+
+unfoldable pub cuts : Step
+cuts = acts (plain (crash 4 (λ i. false)))
+
+unfoldable pub afterwards : List Step
+afterwards = opens ∷ pumpEvent 1 0 (stopAt 99) room ∷ alarmEvent 2 (clearing 9) room ∷ []
+
+abbrev pub later : List Step
+later = busy ++ (cuts ∷ afterwards)
 
 abbrev pub history : List Step
 history = before ++ (starts ∷ (between ++ (confirms ∷ later)))
 
--- the list at its end; the fourth is the list of rights
+-- the list at its end; the third is the list of rights
 unfoldable pub kept : List (Option Done)
 kept =
-    some (tableSet oneBand) ∷ some (pumpDone 0 (startAt 10)) ∷ some (alarmDone (arrival (alarm 7 1 200))) ∷ none ∷ some (pumpDone 0 (stopAt 99)) ∷ []
+    some (tableSet oneBand) ∷ some (alarmDone (arrival (alarm 7 1 200))) ∷ none ∷ some (pumpDone 5 (startAt 4)) ∷ some (pumpDone 6 (startAt 6))
+    ∷ some (pumpDone 0 (startAt 10)) ∷ some (pumpDone 0 (stopAt 99)) ∷ []
+
+-- the ticket of pump 0's start
+abbrev pub ticket : ℕ
+ticket = 42

@@ -1,25 +1,31 @@
 -- One history with the calls of all units: accepted tables, events of all pumps, alarms' events; among them any other calls of the store, of other writers, with
 -- promises, rounds and lists of rights, and cuts.
-use Prim.Native.Nat.{ℕ, suc, _+_, _*_, _≤_}
+use Prim.Native.Nat.{ℕ, suc, _≤_}
 use mathlib.Core.Path.{_≡_}
 use mathlib.Core.Bool.{true, cond}
 use mathlib.Core.List.{List, [], _∷_, _++_}
 use mathlib.Core.Option.{Option, none, some}
 use lib.Dec.{eqb}
 use lib.ListN.{length, take}
-use Rattle.model.specs.Bytes.{zeros}
 use Rattle.model.specs.History.{confirm, call, crash, World, Formatting, afterFormat, ends}
-use Rattle.acts.specs.Units.{Act, plain, transacts, fetches, revises, transactEnds, acted, ActAllowed, relabel}
+use Rattle.acts.specs.Units.{Act, plain, transacts, fetches, revises, acted, ActAllowed, relabel}
+use Rattle.abstract_store.specs.Store.{Reply}
+use Rattle.theorems.specs.IsolatedActs.{answerOf}
 use Rattle.unit_events.specs.Homes.{tableHome, tableHomes, pumpHome, alarmHome, alarmHomes}
 use Rattle.unit_events.specs.Folded as unit
-use Rattle.unit_events.specs.Folded.{offers, sets, readFor, eventAnswer, SparedByAct}
+use Rattle.unit_events.specs.Folded.{offers, sets, SparedByAct}
+use Rattle.unit_shared.specs.Moments.{lentIn}
+use Rattle.unit_shared.specs.Replies.{toldBy}
 use Rattle.unit_bands_table.specs.Stored as table
+use Rattle.unit_bands.specs.Calls.{setCall}
 use Rattle.unit_hours_book.specs.Events.{Event as PumpEvent}
 use Rattle.unit_hours_book.specs.Guarantees as hours
 use Rattle.unit_hours_book.specs.Stored as pumps
+use Rattle.unit_hours.specs.Calls.{eventCall as pumpCall}
 use Rattle.unit_alarms_list.specs.Events.{Event as AlarmEvent}
 use Rattle.unit_alarms_list.specs.Guarantees as alarms
 use Rattle.unit_alarms_list.specs.Stored as panel
+use Rattle.unit_alarms.specs.Claims.{eventCall as alarmCall}
 
 -- A step: any act of the store, a cut among them; a call that sets an accepted table; an event of a pump; an event of the alarms
 pub data Step : Type 0 where
@@ -41,6 +47,11 @@ stepped w s = acted w (actsOf w s)
 unfoldable pub ran : World → List Step → World
 ran w [] = w
 ran w (s ∷ ss) = ran (stepped w s) ss
+
+-- the acts that the history stands for
+unfoldable pub actsAll : World → List Step → List Act
+actsAll w [] = []
+actsAll w (s ∷ ss) = actsOf w s ++ actsAll (stepped w s) ss
 
 -- What a commit was, where a unit's call made it: "its commit carries the event as a label". Beside the book's list of commits stands a list of these.
 pub data Done : Type 0 where
@@ -89,68 +100,43 @@ StepAllowed w (setsTable writer rows batch) = w .ready ≡ true
 StepAllowed w (pumpEvent writer pump e batch) = w .ready ≡ true
 StepAllowed w (alarmEvent writer e batch) = w .ready ≡ true
 
-abbrev pub AllAllowed : World → List Step → Type 0
-AllAllowed w [] = Unit {0}
-AllAllowed w (s ∷ ss) = StepAllowed w s × AllAllowed (stepped w s) ss
+abbrev pub JointAllowed : World → List Step → Type 0
+JointAllowed w [] = Unit {0}
+JointAllowed w (s ∷ ss) = StepAllowed w s × JointAllowed (stepped w s) ss
 
-pub record Apart (w : World) (a : Act) : Type 0 where
+pub record SparesUnits (w : World) (a : Act) : Type 0 where
   pub fromTable : SparedByAct tableHome tableHomes table.judged table.stored w a
   pub fromPumps : (pump : ℕ) → pump ≤ 7 → SparedByAct (pumpHome pump) 1 pumps.judged hours.heldWith w a
   pub fromAlarms : SparedByAct alarmHome alarmHomes panel.judged alarms.heldWith w a
 
 abbrev pub StepFits : World → Step → Type 0
-StepFits w (acts a) = Apart w a
+StepFits w (acts a) = SparesUnits w a
 StepFits w (setsTable writer rows batch) = table.Accepted rows
 StepFits w (pumpEvent writer pump e batch) = (pump ≤ 7) × hours.Timed e
 StepFits w (alarmEvent writer e batch) = alarms.Typed e
 
-abbrev pub AllFit : World → List Step → Type 0
-AllFit w [] = Unit {0}
-AllFit w (s ∷ ss) = StepFits w s × AllFit (stepped w s) ss
+abbrev pub JointFits : World → List Step → Type 0
+JointFits w [] = Unit {0}
+JointFits w (s ∷ ss) = StepFits w s × JointFits (stepped w s) ss
 
--- What a unit's call asks before its transaction, and the act by which it stores. A call is done if both answer 0; its figure is its ticket.
-unfoldable pub asks : World → Step → ℕ
-asks w (acts a) = 0
-asks w (setsTable writer rows batch) = 0
-asks w (pumpEvent writer pump e batch) = eventAnswer (pumpHome pump) 1 pumps.judged hours.heldWith w writer e
-asks w (alarmEvent writer e batch) = eventAnswer alarmHome alarmHomes panel.judged alarms.heldWith w writer e
+-- What a step's call tells at a moment, as C gets it: number, figure and bytes of records. A unit's call is the exported one of its request.
+unfoldable pub toldIn : World → Step → Reply
+toldIn w (acts a) = answerOf w a
+toldIn w (setsTable writer rows batch) = toldBy (setCall (lentIn w batch) writer rows)
+toldIn w (pumpEvent writer pump e batch) = toldBy (pumpCall (lentIn w batch) writer pump e)
+toldIn w (alarmEvent writer e batch) = toldBy (alarmCall (lentIn w batch) writer e)
 
--- its writer, home and blocks
-unfoldable pub writerOf : Step → ℕ
-writerOf (acts a) = 0
-writerOf (setsTable writer rows batch) = writer
-writerOf (pumpEvent writer pump e batch) = writer
-writerOf (alarmEvent writer e batch) = writer
+-- a done call, and its ticket [S-87]
+abbrev pub IsDone : World → Step → Type 0
+IsDone w s = toldIn w s .code ≡ 0
 
-unfoldable pub homeOf : Step → ℕ
-homeOf (acts a) = 0
-homeOf (setsTable writer rows batch) = tableHome
-homeOf (pumpEvent writer pump e batch) = pumpHome pump
-homeOf (alarmEvent writer e batch) = alarmHome
-
-unfoldable pub blocksOf : World → Step → List ℕ
-blocksOf w (acts a) = []
-blocksOf w (setsTable writer rows batch) = table.stored (zeros (64 * tableHomes)) rows
-blocksOf w (pumpEvent writer pump e batch) = hours.heldWith (readFor (pumpHome pump) 1 pumps.judged hours.heldWith w writer .block) e
-blocksOf w (alarmEvent writer e batch) = alarms.heldWith (readFor alarmHome alarmHomes panel.judged alarms.heldWith w writer .block) e
-
-unfoldable pub batchOf : Step → List ℕ
-batchOf (acts a) = []
-batchOf (setsTable writer rows batch) = batch
-batchOf (pumpEvent writer pump e batch) = batch
-batchOf (alarmEvent writer e batch) = batch
-
-pub record IsDone (w : World) (s : Step) : Type 0 where
-  pub asked : asks w s ≡ 0
-  pub stored : transactEnds w (writerOf s) (homeOf s) (blocksOf w s) (batchOf s) .code ≡ 0
-
-unfoldable pub ticketOf : World → Step → ℕ
-ticketOf w s = transactEnds w (writerOf s) (homeOf s) (blocksOf w s) (batchOf s) .figure
+abbrev pub ticketOf : World → Step → ℕ
+ticketOf w s = toldIn w s .figure
 
 -- A done event is the last of its list. [S-87]
 abbrev pub DoneIsLast : Type 0
 DoneIsLast =
-    (groups homes : ℕ) (f : Formatting groups homes) (before : List Step) (s : Step) (d : Done) → AllAllowed (afterFormat f) (before ++ (s ∷ [])) →
+    (groups homes : ℕ) (f : Formatting groups homes) (before : List Step) (s : Step) (d : Done) → JointAllowed (afterFormat f) (before ++ (s ∷ [])) →
     noteOf s ≡ some d → IsDone (ran (afterFormat f) before) s →
     notes (afterFormat f) (before ++ (s ∷ [])) ≡ notes (afterFormat f) before ++ (some d ∷ [])
 
@@ -176,7 +162,7 @@ confirms = acts (plain (call confirm))
 abbrev pub ConfirmedStays : Type 0
 ConfirmedStays =
     (groups homes : ℕ) (f : Formatting groups homes) (before : List Step) (s : Step) (between later : List Step) (d : Done) →
-    AllAllowed (afterFormat f) (before ++ (s ∷ (between ++ (confirms ∷ later)))) → noteOf s ≡ some d →
+    JointAllowed (afterFormat f) (before ++ (s ∷ (between ++ (confirms ∷ later)))) → noteOf s ≡ some d →
     let w : World = ran (afterFormat f) before in
     let v : World = ran (stepped w s) between in
     IsDone w s → NoCuts between → ends v confirm .code ≡ 0 → ticketOf w s ≤ ends v confirm .figure →

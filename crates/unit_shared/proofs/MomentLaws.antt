@@ -14,7 +14,7 @@ use Rattle.model.specs.History.{World, lent}
 use Rattle.acts.specs.Units.{Act, revises, transacts, transactEnds, reviseEnds, act, acted, leftBy as left-in}
 use Rattle.unit_events.proofs.PromisesHold.{refusals-stay}
 use Rattle.unit_events.specs.Folded.{offers, sets, first, readFor, eventAnswer, storing, actsOf, answered, stepped}
-use Rattle.unit_shared.specs.Unit.{Lent, Left, Judged, asJudged, untouched, leftBy, revised, transacted, stored, afterReading, event}
+use Rattle.unit_shared.specs.Unit.{Lent, UnitOutcome, Judged, asJudged, untouched, leftBy, revised, transacted, stored, afterReading, event}
 use Rattle.unit_shared.specs.Moments.{lentIn, Leaves, EventStands, SetStands}
 
 none-read : (w : World) (batch : List ℕ) → w .pending ++ readBatch (take 0 batch) ≡ w .pending
@@ -46,7 +46,7 @@ module _ {E : Type 0} (home n : ℕ) (judge : List ℕ → E → ℕ) (apply : L
   abbrev rule : List ℕ → Judged
   rule blocks = asJudged (judge blocks e) (apply blocks e)
 
-  abbrev call : Left
+  abbrev call : UnitOutcome
   call = event (lentIn w batch) writer home n rule
 
   -- the read comes first, and leaves the world
@@ -59,7 +59,7 @@ module _ {E : Type 0} (home n : ℕ) (judge : List ℕ → E → ℕ) (apply : L
   unfolding event revised readFor reviseEnds lent
   call-is = refl
 
-  refused-step : (k : ℕ) → eventAnswer home n judge apply w writer e ≡ suc k → stepped home n judge apply w (offers writer e batch) ≡ w
+  pub refused-step : (k : ℕ) → eventAnswer home n judge apply w writer e ≡ suc k → stepped home n judge apply w (offers writer e batch) ≡ w
   unfolding acted
   refused-step k h = step-is ∙ rw (h, ne-eqb (suc k) 0 (λ z. omega arith))
 
@@ -88,7 +88,7 @@ module _ {E : Type 0} (home n : ℕ) (judge : List ℕ → E → ℕ) (apply : L
       let c : call ≡ untouched (lentIn w batch) (suc k) 0 = call-is ∙ (unfold afterReading in rw (h, ne-eqb (suc k) 0 (λ z. omega arith))) in
       record {
         leaves = subst (Leaves w (stepped home n judge apply w (offers writer e batch))) (sym c) (leaves-none w _ batch (suc k) (refused-step k v));
-        code = ap (λ (l : Left). l .code) c ∙ answered-refused k v;
+        code = ap (λ (l : UnitOutcome). l .code) c ∙ answered-refused k v;
       }
 
   turned-down : (k : ℕ) → o .code ≡ 0 → judge (o .block) e ≡ suc k → EventStands home n judge apply w writer e batch
@@ -97,7 +97,7 @@ module _ {E : Type 0} (home n : ℕ) (judge : List ℕ → E → ℕ) (apply : L
       let c : call ≡ untouched (lentIn w batch) (suc k) 0 = call-is ∙ (unfold afterReading stored in rw (h, j, ne-eqb (suc k) 0 (λ z. omega arith))) in
       record {
         leaves = subst (Leaves w (stepped home n judge apply w (offers writer e batch))) (sym c) (leaves-none w _ batch (suc k) (refused-step k v));
-        code = ap (λ (l : Left). l .code) c ∙ answered-refused k v;
+        code = ap (λ (l : UnitOutcome). l .code) c ∙ answered-refused k v;
       }
 
   taken : o .code ≡ 0 → judge (o .block) e ≡ 0 → EventStands home n judge apply w writer e batch
@@ -108,7 +108,7 @@ module _ {E : Type 0} (home n : ℕ) (judge : List ℕ → E → ℕ) (apply : L
         leaves =
             subst (Leaves w (stepped home n judge apply w (offers writer e batch))) (sym c)
             (subst (λ (u : World). Leaves w u (transacted (lentIn w batch) writer home (apply (o .block) e))) (sym (done-step v)) (leaves-all w writer home (apply (o .block) e) batch));
-        code = ap (λ (l : Left). l .code) c ∙ answered-done v;
+        code = ap (λ (l : UnitOutcome). l .code) c ∙ answered-done v;
       }
 
   pub event-stands : EventStands home n judge apply w writer e batch

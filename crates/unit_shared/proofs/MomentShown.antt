@@ -15,7 +15,7 @@ use Rattle.acts.specs.Units.{fetchEnds, reviseEnds}
 use Rattle.model_laws.proofs.bytes.ByteLaws.{length-zeros}
 use Rattle.unit_events.specs.Offered.{heldAfter}
 use Rattle.unit_events.specs.Folded.{noted, readFor, Folded, Recorded}
-use Rattle.unit_shared.specs.Unit.{Lent, Left, Judged, untouched, fetched, revised, transacted, stored, afterReading, event}
+use Rattle.unit_shared.specs.Unit.{Lent, UnitOutcome, Judged, untouched, fetched, revised, transacted, stored, afterReading, event}
 use Rattle.unit_shared.specs.Shown.{Shown}
 use Rattle.unit_shared.specs.Moments.{lentIn}
 
@@ -55,5 +55,5 @@ pub event-alike : (l : Lent) (writer home n : ℕ) (i j : List ℕ → Judged) �
     → ((b : List ℕ) → j b .code ≡ 0 → i b .blocks ≡ j b .blocks) → event l writer home n i ≡ event l writer home n j
 unfolding event afterReading
 event-alike l writer home n i j c b =
-    ap (λ (x : Left). cond (eqb (revised l writer home n .code) 0) x (untouched l (revised l writer home n .code) 0))
+    ap (λ (x : UnitOutcome). cond (eqb (revised l writer home n .code) 0) x (untouched l (revised l writer home n .code) 0))
     (stored-alike l writer home (i (revised l writer home n .block)) (j (revised l writer home n .block)) (c _) (b _))

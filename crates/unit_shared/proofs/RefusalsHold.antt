@@ -9,7 +9,7 @@ use Rattle.model.specs.Effects.{Given, Effect}
 use Rattle.model.specs.Calls.{Outcome, refused, done, outcome, sizeOf}
 use Rattle.acts.specs.Many.{transactEffect, transactAnswer, transactCall}
 use Rattle.call_ask.specs.Lent.{lentAll}
-use Rattle.unit_shared.specs.Unit.{Lent, Left, Judged, leaves, untouched, leftBy, revised, transacted, stored, afterReading, event}
+use Rattle.unit_shared.specs.Unit.{Lent, UnitOutcome, Judged, leaves, untouched, leftBy, revised, transacted, stored, afterReading, event}
 use Rattle.unit_shared.specs.Refusals.{Refusal, UnitRefusals}
 
 pub untouched-refuses : (l : Lent) (code figure : ℕ) → Refusal l figure (untouched l code figure)

@@ -21,7 +21,7 @@ use Rattle.theorems.proofs.many.ActsAnswerHolds.{acts-answer}
 use Rattle.unit_events.specs.Folded.{Step, acts, offers, sets, first, readFor, eventAnswer, storing, actsOf, stepped, ran, StepAllowed, AllStepsAllowed}
 use Rattle.unit_events.proofs.FoldedHolds.{acted-append, allowed-append}
 use Rattle.unit_events.proofs.PromisesHold.{refusals-stay}
-use Rattle.unit_shared.specs.Unit.{Left, untouched, leftBy, fetched, revised, transacted}
+use Rattle.unit_shared.specs.Unit.{UnitOutcome, untouched, leftBy, fetched, revised, transacted}
 use Rattle.unit_shared.specs.Moments.{lentIn}
 use Rattle.unit_shared.specs.Refusals.{Refusal}
 use Rattle.unit_shared.specs.Replies.{askRead, replyStored, replyEvent, toldBy, Answered, allActs, storeBeside}
@@ -46,14 +46,14 @@ told-untouched : (w : World) (batch : List ℕ) (k f s : ℕ) → toldBy (untouc
 unfolding toldBy untouched told
 told-untouched w batch k f s = refl
 
-pub told-refused : (w : World) (batch : List ℕ) (x : Left) (k f s : ℕ) → x .code ≡ suc k → (x .code ≢ 0 → Refusal (lentIn w batch) 0 x) → toldBy x ≡ told (suc k) f s
+pub told-refused : (w : World) (batch : List ℕ) (x : UnitOutcome) (k f s : ℕ) → x .code ≡ suc k → (x .code ≢ 0 → Refusal (lentIn w batch) 0 x) → toldBy x ≡ told (suc k) f s
 unfolding toldBy told
 told-refused w batch x k f s e r =
     let q = r (λ z. absurd (omega (arith, e, z))) in
     rw (e, q .figure, q .size)
 
 -- how an event's call ends: the read's refusal, its own, or the transaction of its blocks
-pub record EventEnds (w : World) (batch : List ℕ) (writer home n own : ℕ) (x : Left) : Type 0 where
+pub record EventEnds (w : World) (batch : List ℕ) (writer home n own : ℕ) (x : UnitOutcome) : Type 0 where
   pub unread : revised (lentIn w batch) writer home n .code ≢ 0 → x .code ≡ revised (lentIn w batch) writer home n .code
   pub refusal : x .code ≢ 0 → Refusal (lentIn w batch) 0 x
   pub refused : revised (lentIn w batch) writer home n .code ≡ 0 → own ≢ 0 → x ≡ untouched (lentIn w batch) own 0
@@ -138,7 +138,7 @@ module _ (w : World) (s : Store) (m : Answered w s) (writer home n : ℕ) (some 
       all true false c d e = absurd (omega arith)
       all false b c d e = absurd (omega arith)
 
-  pub event-told : (batch : List ℕ) (own : ℕ) (x : Left) → EventEnds w batch writer home n own x → toldBy x ≡ replyEvent s writer home n own batch
+  pub event-told : (batch : List ℕ) (own : ℕ) (x : UnitOutcome) → EventEnds w batch writer home n own x → toldBy x ≡ replyEvent s writer home n own batch
   unfolding replyEvent
   event-told batch own x e = rw (number-is (first own (askEntries s writer n batch))) (go reading own refl refl)
     where
@@ -156,7 +156,7 @@ module _ (w : World) (s : Store) (m : Answered w s) (writer home n : ℕ) (some 
           ∙ (unfold replyStored in rw (stored-number (askEntries s writer n batch) p)))
 
   -- a store with too few homes for the unit reads none of it
-  named-few : s .homes < home + n → (next : ℕ) → askNamed s writer home n next ≢ 0
+  pub named-few : s .homes < home + n → (next : ℕ) → askNamed s writer home n next ≢ 0
   unfolding askNamed ask
   named-few l next = rw (lt-leb (home + n) (s .homes) l) (go (ltb writer 8))
     where
@@ -174,7 +174,7 @@ module _ (w : World) (s : Store) (m : Answered w s) (writer home n : ℕ) (some 
 -- ---- steps are acts
 
 module _ {E : Type 0} (home n : ℕ) (judge : List ℕ → E → ℕ) (apply : List ℕ → E → List ℕ) where
-  step-allowed : (w : World) (s : Step E) → StepAllowed home n judge apply w s → AllActsAllowed w (actsOf home n judge apply w s)
+  pub step-allowed : (w : World) (s : Step E) → StepAllowed home n judge apply w s → AllActsAllowed w (actsOf home n judge apply w s)
   unfolding actsOf storing
   step-allowed w (acts a) ok = (ok, tt)
   step-allowed w (offers v e batch) ok = (ok, go (eqb (eventAnswer home n judge apply w v e) 0))

@@ -8,7 +8,7 @@ use Rattle.model.specs.Bytes.{zeros}
 use Rattle.model.specs.Calls.{Outcome}
 use Rattle.call_ask.specs.Lent.{lentAll, leavesAll}
 use Rattle.acts.specs.Many.{fetchCall, reviseCall, transactCall}
-use Rattle.unit_shared.specs.Unit.{Lent, Left, leaves, untouched, leftBy, fetched, revised, transacted, Judged, asJudged, stored, afterReading, event}
+use Rattle.unit_shared.specs.Unit.{Lent, UnitOutcome, leaves, untouched, leftBy, fetched, revised, transacted, Judged, asJudged, stored, afterReading, event}
 
 -- what a call that reads is given: its answer and the blocks, all else as it was
 abbrev pub readAs : Lent → ℕ → ℕ → ℕ → List ℕ → Outcome
@@ -66,7 +66,7 @@ module _ (l : Lent) where
           event-unread h ec ef es = rw (← reading, ne-eqb code 0 h) (refusal code 0 ec ef es)
 
           -- it is read, and ends by its own answer
-          pub event-read : code ≡ 0 → (answer : ℕ) (next : List ℕ) → asJudged answer next ≡ judge blocks → {x : Left}
+          pub event-read : code ≡ 0 → (answer : ℕ) (next : List ℕ) → asJudged answer next ≡ judge blocks → {x : UnitOutcome}
               → x ≡ stored l writer home (asJudged answer next) → x ≡ event l writer home n judge
           unfolding event afterReading
           event-read done answer next j q = rw (← reading, done, ← j) q

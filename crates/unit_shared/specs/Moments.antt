@@ -7,14 +7,14 @@ use Rattle.model.specs.Bytes.{zeros}
 use Rattle.model.specs.Batch.{readBatch}
 use Rattle.model.specs.History.{World}
 use Rattle.unit_events.specs.Folded.{offers, sets, answered, stepped}
-use Rattle.unit_shared.specs.Unit.{Lent, lentTo, Left, asJudged, transacted, event}
+use Rattle.unit_shared.specs.Unit.{Lent, lentTo, UnitOutcome, asJudged, transacted, event}
 
 -- strip, newest positions and copies as the program has them, and a batch buffer
 abbrev pub lentIn : World → List ℕ → Lent
 lentIn w batch = lentTo (w .log) (w .area) (w .state) (w .newest) batch
 
 -- the next moment has what the call left; the driver reads the records off its batch
-pub record Leaves (w next : World) (l : Left) : Type 0 where
+pub record Leaves (w next : World) (l : UnitOutcome) : Type 0 where
   pub log : next .log ≡ l .log
   pub area : next .area ≡ l .area
   pub state : next .state ≡ l .state

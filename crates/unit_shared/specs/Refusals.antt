@@ -3,10 +3,10 @@ use Prim.Native.Nat.{ℕ}
 use mathlib.Core.Path.{_≡_}
 use mathlib.Core.List.{List}
 use mathlib.Core.Logic.{_≢_}
-use Rattle.unit_shared.specs.Unit.{Lent, Left, Judged, transacted, event}
+use Rattle.unit_shared.specs.Unit.{Lent, UnitOutcome, Judged, transacted, event}
 
 -- what a refused call gives beside its number, with a figure where the request gives it one, and leaves
-pub record Refusal (l : Lent) (told : ℕ) (x : Left) : Type 0 where
+pub record Refusal (l : Lent) (told : ℕ) (x : UnitOutcome) : Type 0 where
   pub figure : x .figure ≡ told
   pub size : x .size ≡ 0
   pub log : x .log ≡ l .log

@@ -1,8 +1,6 @@
 -- What calls on a unit of n homes answer, in terms of the calls before them: of the abstract store and of what the unit's own events answer. The order is
 -- the store's 4, 5, 19 and 20, then the unit's own, then 6, 8 and 9; 1 and 2 refuse none at a moment of a history.
 use Prim.Native.Nat.{ℕ, _+_}
-use mathlib.Core.Path.{_≡_}
-use mathlib.Core.Bool.{true}
 use mathlib.Core.List.{List, [], _∷_, _++_}
 use Rattle.model.specs.Questions.{ask}
 use Rattle.model.specs.History.{World, Formatting, afterFormat}
@@ -10,8 +8,8 @@ use Rattle.abstract_store.specs.Store.{Store, nextOf, Reply, told}
 use Rattle.acts.specs.Units.{Act}
 use Rattle.acts.specs.Replies.{mayStoreEach, mayReadEach, askNamed, transactBytes, askEntries, ManyAnswer}
 use Rattle.theorems.specs.ActsAnswer.{storeAfter}
-use Rattle.unit_events.specs.Folded.{Step, first, actsOf, stepped, ran}
-use Rattle.unit_shared.specs.Unit.{Left}
+use Rattle.unit_events.specs.Folded.{Step, first, actsOf, stepped}
+use Rattle.unit_shared.specs.Unit.{UnitOutcome}
 
 -- the number of a call that reads the n homes from `home` on, before the unit's own
 unfoldable pub askRead : Store → ℕ → ℕ → ℕ → ℕ
@@ -32,7 +30,7 @@ replyEvent s writer home n own batch =
     (transactBytes s n)
 
 -- what a call told
-unfoldable pub toldBy : Left → Reply
+unfoldable pub toldBy : UnitOutcome → Reply
 toldBy l = record { code = l .code; figure = l .figure; size = l .size }
 
 -- a moment at which fetch, revise and transact answer what the abstract store says

@@ -21,7 +21,7 @@ abbrev pub lentTo : List ℕ → List ℕ → List ℕ → List ℕ → List ℕ
 lentTo log area state newest batch = record { log = log; area = area; state = state; newest = newest; batch = batch }
 
 -- all that it gives and leaves
-pub record Left : Type 0 where
+pub record UnitOutcome : Type 0 where
   pub code : ℕ
   pub figure : ℕ
   pub size : ℕ
@@ -31,15 +31,15 @@ pub record Left : Type 0 where
   pub newest : List ℕ
   pub batch : List ℕ
 
-abbrev pub leaves : ℕ → ℕ → ℕ → List ℕ → List ℕ → List ℕ → List ℕ → List ℕ → Left
+abbrev pub leaves : ℕ → ℕ → ℕ → List ℕ → List ℕ → List ℕ → List ℕ → List ℕ → UnitOutcome
 leaves code figure size log area state newest batch =
     record { code = code; figure = figure; size = size; log = log; area = area; state = state; newest = newest; batch = batch }
 
 -- a refusal, with a figure where the request gives it one
-unfoldable pub untouched : Lent → ℕ → ℕ → Left
+unfoldable pub untouched : Lent → ℕ → ℕ → UnitOutcome
 untouched l code figure = leaves code figure 0 (l .log) (l .area) (l .state) (l .newest) (l .batch)
 
-unfoldable pub leftBy : Outcome → Left
+unfoldable pub leftBy : Outcome → UnitOutcome
 leftBy o = leaves (o .code) (o .figure) (o .size) (o .log) (o .area) (o .state) (o .newest) (o .batch)
 
 -- n homes read, and read by a call that is going to store them; "a call on them names a writer, for whom it reads"
@@ -50,7 +50,7 @@ unfoldable pub revised : Lent → ℕ → ℕ → ℕ → Outcome
 revised l writer home n = reviseCall (lentAll (l .log) (l .area) (l .state) (l .newest) (zeros (64 * n)) [] writer home)
 
 -- "or begins, stores and commits": blocks stored as one transaction
-unfoldable pub transacted : Lent → ℕ → ℕ → List ℕ → Left
+unfoldable pub transacted : Lent → ℕ → ℕ → List ℕ → UnitOutcome
 transacted l writer home blocks =
     leftBy (transactCall (lentAll (l .log) (l .area) (l .state) (l .newest) blocks (l .batch) writer home))
 
@@ -64,12 +64,12 @@ pub record Judged : Type 0 where
 abbrev pub asJudged : ℕ → List ℕ → Judged
 asJudged code blocks = record { code = code; blocks = blocks }
 
-unfoldable pub stored : Lent → ℕ → ℕ → Judged → Left
+unfoldable pub stored : Lent → ℕ → ℕ → Judged → UnitOutcome
 stored l writer home j = cond (eqb (j .code) 0) (transacted l writer home (j .blocks)) (untouched l (j .code) 0)
 
 -- the store's questions up to 20 come with the reading, then the event's own, then the rest with the transaction
-unfoldable pub afterReading : Lent → ℕ → ℕ → (List ℕ → Judged) → Outcome → Left
+unfoldable pub afterReading : Lent → ℕ → ℕ → (List ℕ → Judged) → Outcome → UnitOutcome
 afterReading l writer home judge o = cond (eqb (o .code) 0) (stored l writer home (judge (o .block))) (untouched l (o .code) 0)
 
-unfoldable pub event : Lent → ℕ → ℕ → ℕ → (List ℕ → Judged) → Left
+unfoldable pub event : Lent → ℕ → ℕ → ℕ → (List ℕ → Judged) → UnitOutcome
 event l writer home n judge = afterReading l writer home judge (revised l writer home n)

@@ -11,7 +11,7 @@ use Rattle.model.specs.History.{Service, settles, roundBegins, roundSteps, trim
 use Rattle.acts.specs.Units.{Act, plain, transacts, fetches, revises, transactEnds, fetchEnds, reviseEnds, leftBy, act, acted, ActAllowed, AllActsAllowed, expand, expandAll}
 use Rattle.abstract_store.specs.Store.{Store, newStore, listOf, replyOf, follow}
 use Rattle.theorems.specs.Isolation.{Each, both, more, StoreAlike, CallAlike, equal, stored, Denied, DeniedThroughout, followed}
-use Rattle.theorems.specs.IsolatedActs.{ActAlike, called, transacted, fetched, revised, answerOf, blockOfService, blockOfRead, blocksOf, SameThroughout, followedActs, ActsIsolated, IsolatedFromFormat}
+use Rattle.theorems.specs.IsolatedActs.{ActAlike, called, transacted, fetched, revised, BeforeAlike, differs, shares, answerOf, blockOfService, blockOfRead, blocksOf, SameThroughout, followedActs, ActsIsolated, IsolatedFromFormat}
 use Rattle.theorems.proofs.steps.FormatRuns.{after-format}
 use Rattle.theorems.proofs.store.Reached.{Reached, begins, followed-append, goes-along}
 use Rattle.theorems.proofs.many.ActsHold.{act-expands}
@@ -22,7 +22,7 @@ use Rattle.theorems.proofs.isolation.AlikeActs.{transact-same, transact
 
 -- ---- acts one behind the other
 
-acts-split : (xs ys : List Act) (w : World) → AllActsAllowed w (xs ++ ys) → AllActsAllowed w xs × AllActsAllowed (acted w xs) ys
+pub acts-split : (xs ys : List Act) (w : World) → AllActsAllowed w (xs ++ ys) → AllActsAllowed w xs × AllActsAllowed (acted w xs) ys
 unfolding acted
 acts-split [] ys w a = (tt, a)
 acts-split (x ∷ xs) ys w a = let k = acts-split xs ys (act w x) (a .1) in ((a .0, k .0), k .1)
@@ -37,14 +37,14 @@ reached-act w s a r ok =
     let x = act-expands w s a r ok in
     subst (λ (u : World). Reached u (followed s w (expand w a))) (x .1) (goes-along (expand w a) w s r (x .0))
 
-reached-acts : (xs : List Act) (w : World) (s : Store) → Reached w s → AllActsAllowed w xs → Reached (acted w xs) (followed s w (expandAll w xs))
+pub reached-acts : (xs : List Act) (w : World) (s : Store) → Reached w s → AllActsAllowed w xs → Reached (acted w xs) (followed s w (expandAll w xs))
 unfolding acted expandAll
 reached-acts [] w s r a = unfold followed in r
 reached-acts (x ∷ xs) w s r a =
     subst (Reached (acted (act w x) xs)) (sym (followed-act w s x (expandAll (act w x) xs) r (a .0)))
     (reached-acts xs (act w x) (followed s w (expand w x)) (reached-act w s x r (a .0)) (a .1))
 
-denied-now : (writer : ℕ) (hidden : ℕ → Bool) (s : Store) (w : World) (es : List Event) → DeniedThroughout writer hidden s w es → Denied writer hidden s
+pub denied-now : (writer : ℕ) (hidden : ℕ → Bool) (s : Store) (w : World) (es : List Event) → DeniedThroughout writer hidden s w es → Denied writer hidden s
 denied-now writer hidden s w [] d = d
 denied-now writer hidden s w (e ∷ es) d = d .0
 
@@ -53,6 +53,20 @@ denied-after : (writer : ℕ) (hidden : ℕ → Bool) (es fs : List Event) (s : 
 unfolding followed after
 denied-after writer hidden [] fs s w d = d
 denied-after writer hidden (e ∷ es) fs s w d = denied-after writer hidden es fs (follow s w e) (step w e) (d .1)
+
+-- the same behind acts
+pub denied-acts : (writer : ℕ) (hidden : ℕ → Bool) (xs us : List Act) (w : World) (s : Store) → Reached w s → AllActsAllowed w xs
+    → DeniedThroughout writer hidden s w (expandAll w (xs ++ us))
+    → DeniedThroughout writer hidden (followed s w (expandAll w xs)) (acted w xs) (expandAll (acted w xs) us)
+unfolding acted expandAll
+denied-acts writer hidden [] us w s r ok d = unfold followed in d
+denied-acts writer hidden (x ∷ xs) us w s r ok d =
+    let then : DeniedThroughout writer hidden (followed s w (expand w x)) (act w x) (expandAll (act w x) (xs ++ us)) =
+    subst (λ (u : World). DeniedThroughout writer hidden (followed s w (expand w x)) u (expandAll (act w x) (xs ++ us))) (act-expands w s x r (ok .0) .1)
+    (denied-after writer hidden (expand w x) (expandAll (act w x) (xs ++ us)) s w d) in
+    subst (λ (t : Store). DeniedThroughout writer hidden t (acted (act w x) xs) (expandAll (acted (act w x) xs) us))
+    (sym (followed-act w s x (expandAll (act w x) xs) r (ok .0)))
+    (denied-acts writer hidden xs us (act w x) (followed s w (expand w x)) (reached-act w s x r (ok .0)) (ok .1) then)
 
 -- ---- one act
 
@@ -147,6 +161,37 @@ module _ (hidden : ℕ → Bool) (writer : ℕ) where
             (act-ready hidden w k w-ready) (other-ready hidden v k v-ready) (act-next hidden shows r q w-ready v-ready a (ok .0) (ok′ .0) k) ks then,
       )
 
+-- acts that are alike leave stores alike
+pub record Beside (hidden : ℕ → Bool) (w v : World) (s t : Store) : Type 0 where
+  pub left : Reached w s
+  pub right : Reached v t
+  pub left-ready : w .ready ≡ true
+  pub right-ready : v .ready ≡ true
+  pub alike : StoreAlike hidden s t
+
+module _ (hidden : ℕ → Bool) (shows : ListShown hidden) where
+  act-beside : (w v : World) (s t : Store) {x y : Act} → ActAllowed w x → ActAllowed v y → ActAlike hidden x y → Beside hidden w v s t
+      → Beside hidden (act w x) (act v y) (followed s w (expand w x)) (followed t v (expand v y))
+  act-beside w v s t {x} {y} ok ok′ k b =
+      record {
+        left = reached-act w s x (b .left) ok;
+        right = reached-act v t y (b .right) ok′;
+        left-ready = act-ready hidden w k (b .left-ready);
+        right-ready = other-ready hidden v k (b .right-ready);
+        alike = act-next hidden shows (b .left) (b .right) (b .left-ready) (b .right-ready) (b .alike) ok ok′ k;
+      }
+
+  pub acts-next : (xs ys : List Act) (w v : World) (s t : Store) → AllActsAllowed w xs → AllActsAllowed v ys → Each (ActAlike hidden) xs ys
+      → Beside hidden w v s t → Beside hidden (acted w xs) (acted v ys) (followed s w (expandAll w xs)) (followed t v (expandAll v ys))
+  unfolding acted expandAll
+  acts-next [] [] w v s t ok ok′ both b = unfold followed in b
+  acts-next (x ∷ xs) (y ∷ ys) w v s t ok ok′ (more k ks) b =
+      let rest = acts-next xs ys (act w x) (act v y) (followed s w (expand w x)) (followed t v (expand v y)) (ok .1) (ok′ .1) ks (act-beside w v s t (ok .0) (ok′ .0) k b) in
+      subst (λ (u : Store). Beside hidden (acted (act w x) xs) (acted (act v y) ys) u (followed t v (expand v y ++ expandAll (act v y) ys)))
+      (sym (followed-act w s x (expandAll (act w x) xs) (b .left) (ok .0)))
+      (subst (Beside hidden (acted (act w x) xs) (acted (act v y) ys) (followed (followed s w (expand w x)) (act w x) (expandAll (act w x) xs)))
+      (sym (followed-act v t y (expandAll (act v y) ys) (b .right) (ok′ .0))) rest)
+
 pub acts-isolated : ActsIsolated
 acts-isolated G D f g before other xs ys writer hidden ok ok′ f-ready g-ready a k d =
     let p = acts-split before xs (afterFormat f) ok in
@@ -196,25 +241,55 @@ module _ (hidden : ℕ → Bool) (shows : ListShown hidden) where
       (acts-near xs ys (act w x) (act v y) (followed s w (expand w x)) (followed t v (expand v y)) (reached-act w s x r (ok .0)) (reached-act v t y q (ok′ .0))
       (ok .1) (ok′ .1) ks (act-near w v s t r q (ok .0) (ok′ .0) k n))
 
+  -- the same acts keep equal worlds equal
+  before-near : {xs ys : List Act} (w v : World) (s t : Store) → w ≡ v → s ≡ t → Reached w s → Reached v t → AllActsAllowed w xs → AllActsAllowed v ys
+      → BeforeAlike hidden xs ys → Near hidden (acted w xs) (acted v ys) (followed s w (expandAll w xs)) (followed t v (expandAll v ys))
+  unfolding acted expandAll
+  before-near w v s t n m r q ok ok′ (differs {xs = xs} {ys = ys} k) =
+      acts-near xs ys w v s t r q ok ok′ k
+      (subst (λ (u : World). Near hidden w u s t) n (subst (Near hidden w w s) m (equal-near w s)))
+  before-near w v s t n m r q ok ok′ (shares {a = x} {xs = xs} {ys = ys} k) =
+      rw (followed-act w s x (expandAll (act w x) xs) r (ok .0), followed-act v t x (expandAll (act v x) ys) q (ok′ .0))
+      (before-near (act w x) (act v x) (followed s w (expand w x)) (followed t v (expand v x)) (ap (λ (u : World). act u x) n) (rw (n, m))
+      (reached-act w s x r (ok .0)) (reached-act v t x q (ok′ .0)) (ok .1) (ok′ .1) k)
+
+-- so stores are alike behind what is alike from the format on
+pub beside-there : (G D : ℕ) (f g : Formatting G D) (before other : List Act) (hidden : ℕ → Bool) → ListShown hidden → AllActsAllowed (afterFormat f) before
+    → AllActsAllowed (afterFormat g) other → acted (afterFormat f) before .ready ≡ true → BeforeAlike hidden before other
+    → Beside hidden (acted (afterFormat f) before) (acted (afterFormat g) other) (followedActs (newStore G D) (afterFormat f) before)
+    (followedActs (newStore G D) (afterFormat g) other)
+beside-there G D f g before other hidden shows ok ok′ f-ready k =
+    go (before-near hidden shows w₀ v₀ s₀ s₀ (after-format f ∙ sym (after-format g)) refl (begins f) (begins g) ok ok′ k)
+  where
+    w₀ : World
+    w₀ = afterFormat f
+
+    v₀ : World
+    v₀ = afterFormat g
+
+    s₀ : Store
+    s₀ = newStore G D
+
+    go : Near hidden (acted w₀ before) (acted v₀ other) (followedActs s₀ w₀ before) (followedActs s₀ v₀ other)
+        → Beside hidden (acted w₀ before) (acted v₀ other) (followedActs s₀ w₀ before) (followedActs s₀ v₀ other)
+    go (unopenedYet e n m) = absurd (false≢true (sym e ∙ f-ready))
+    go (inUse e e′ a) =
+        record {
+          left = reached-acts before w₀ s₀ (begins f) ok;
+          right = reached-acts other v₀ s₀ (begins g) ok′;
+          left-ready = e;
+          right-ready = e′;
+          alike = a;
+        }
+
 pub isolated-from-format : IsolatedFromFormat
 isolated-from-format G D f g before other xs ys writer hidden ok ok′ f-ready k ks d =
-    let w₀ : World = afterFormat f in
-    let v₀ : World = afterFormat g in
-    let s₀ : Store = newStore G D in
-    let p = acts-split before xs w₀ ok in
-    let q = acts-split other ys v₀ ok′ in
-    let r = reached-acts before w₀ s₀ (begins f) (p .0) in
-    let r′ = reached-acts other v₀ s₀ (begins g) (q .0) in
-    let shows : ListShown hidden = list-shows hidden writer (followedActs s₀ w₀ before) (denied-now writer hidden (followedActs s₀ w₀ before) (acted w₀ before) (expandAll (acted w₀ before) xs) d) in
-    let same : w₀ ≡ v₀ = after-format f ∙ sym (after-format g) in
-    let begun : Near hidden w₀ v₀ s₀ s₀ = unopenedYet (unfold afterFormat unopened in refl) same refl in
-    go (acts-near hidden shows before other w₀ v₀ s₀ s₀ (begins f) (begins g) (p .0) (q .0) k begun) r r′ (p .1) (q .1)
-  where
-    go : Near hidden (acted (afterFormat f) before) (acted (afterFormat g) other) (followedActs (newStore G D) (afterFormat f) before) (followedActs (newStore G D) (afterFormat g) other)
-        → Reached (acted (afterFormat f) before) (followedActs (newStore G D) (afterFormat f) before)
-        → Reached (acted (afterFormat g) other) (followedActs (newStore G D) (afterFormat g) other) → AllActsAllowed (acted (afterFormat f) before) xs
-        → AllActsAllowed (acted (afterFormat g) other) ys → SameThroughout writer (acted (afterFormat f) before) (acted (afterFormat g) other) xs ys
-    go (unopenedYet e n m) r r′ a b = absurd (false≢true (sym e ∙ f-ready))
-    go (inUse e e′ a) r r′ m n =
-        same-throughout hidden writer xs ys (acted (afterFormat f) before) (acted (afterFormat g) other) (followedActs (newStore G D) (afterFormat f) before)
-        (followedActs (newStore G D) (afterFormat g) other) r r′ m n e e′ a ks d
+    let w : World = acted (afterFormat f) before in
+    let v : World = acted (afterFormat g) other in
+    let s : Store = followedActs (newStore G D) (afterFormat f) before in
+    let t : Store = followedActs (newStore G D) (afterFormat g) other in
+    let p = acts-split before xs (afterFormat f) ok in
+    let q = acts-split other ys (afterFormat g) ok′ in
+    let shows : ListShown hidden = list-shows hidden writer s (denied-now writer hidden s w (expandAll w xs) d) in
+    let b = beside-there G D f g before other hidden shows (p .0) (q .0) f-ready k in
+    same-throughout hidden writer xs ys w v s t (b .left) (b .right) (p .1) (q .1) (b .left-ready) (b .right-ready) (b .alike) ks d

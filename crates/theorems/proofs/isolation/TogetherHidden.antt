@@ -6,19 +6,20 @@ use mathlib.Core.Bool.{Bool, true, false, not, _&&_, false≢true}
 use mathlib.Core.List.{List, [], _∷_, _++_}
 use native.Mathlib.Omega.{arith}
 use lib.ListN.{length}
+use borrow.Author.Tests.{leb-true}
 use Rattle.model.specs.Bytes.{part}
 use Rattle.model.specs.State.{listedOf, setListed, listSign, setListSign, freshNumbers}
 use Rattle.model.specs.Newest.{carryListed}
 use Rattle.model.specs.Rights.{forHome, shownAt, listBy, storeList, readList, ofList, isList, inRange, inRanges, mayStore, mayRead, sameListed, listMoved, signFor, signIf, keepList, signedList, storeRight, readRight}
 use Rattle.model.specs.Questions.{storeAllowed, readAllowed}
 use Rattle.model.specs.examples.Trials.{room, fill}
-use Rattle.model.specs.History.{call, flush, World, afterFormat, emptyStore, isOpening}
+use Rattle.model.specs.History.{begin, store, commit, flush, call, World, afterFormat, emptyStore, isOpening}
 use Rattle.acts.specs.Many.{blocksLent, lentOn, andThen, storedFirst, transactEffect, blocksRead, fetchEffect, blocksRight, homesKnown, allOf, mayStoreAll, mayReadAll, roomForAll, askHomes, fetchAnswer, reviseAnswer, transactAnswer, fetchCall, reviseCall, transactCall}
 use Rattle.acts.specs.Units.{Act, plain, transacts, fetches, revises, transactEnds, fetchEnds, reviseEnds, feedStores, feedTransact, leftBy, act, acted, AllActsAllowed, storesFrom, chain, expand, expandAll, roomy}
 use Rattle.abstract_store.specs.Store.{Store, newStore, firstGroup, numbered, withRound, listOf, lastAfter, fencedAfter, setFor, promisesAfter, storeMustLog, replyOf, told, afterReply, follow, afterService}
 use Rattle.abstract_store.specs.Store as abstract-store
-use Rattle.theorems.specs.Isolation.{Each, both, more, CallAlike, equal, followed, DeniedThroughout}
-use Rattle.theorems.specs.IsolatedActs.{BlocksAlike, ActAlike, called, transacted, fetched, revised, answerOf, blockOfService, blockOfRead, blocksOf, SameThroughout, followedActs}
+use Rattle.theorems.specs.Isolation.{Each, both, more, CallAlike, equal, stored, followed, DeniedThroughout}
+use Rattle.theorems.specs.IsolatedActs.{BlocksAlike, ActAlike, called, transacted, fetched, revised, BeforeAlike, differs, shares, answerOf, blockOfService, blockOfRead, blocksOf, SameThroughout, followedActs}
 use Rattle.theorems.specs.Hidden.{rangeOf, firstWriters, nextWriters, unformatted, firstOpening, fourth}
 use Rattle.theorems.specs.HiddenTogether.{sharedBefore, sharedAfter, numbers, answersIn, blocksIn, sharedWorld, answersShared, blocksOfOne, togetherHidden, togetherShown}
 use Rattle.theorems.proofs.steps.FormatRuns.{after-format}
@@ -41,13 +42,13 @@ together-shown = refl
 
 -- ---- the premises
 
-allowed-one : AllActsAllowed (emptyStore 4 12) (sharedBefore 1 ++ sharedAfter 2)
+allowed-one : AllActsAllowed (emptyStore 4 12) (sharedBefore 1 ++ sharedAfter 2 3)
 unfolding computed
-allowed-one = (refl, (refl, (refl, (refl, (refl, (refl, (refl, (refl, (refl, (refl, (refl, (refl, (refl, (refl, (refl, tt)))))))))))))))
+allowed-one = (refl, (refl, ((leb-true _ _ refl, leb-true _ _ refl), (refl, (refl, (refl, (refl, (refl, (refl, (refl, (refl, (refl, (refl, (refl, (refl, (refl, (refl, (refl, (refl, (refl, (refl, tt)))))))))))))))))))))
 
-allowed-other : AllActsAllowed (emptyStore 4 12) (sharedBefore 101 ++ sharedAfter 102)
+allowed-other : AllActsAllowed (emptyStore 4 12) (sharedBefore 101 ++ sharedAfter 102 103)
 unfolding computed
-allowed-other = (refl, (refl, (refl, (refl, (refl, (refl, (refl, (refl, (refl, (refl, (refl, (refl, (refl, (refl, (refl, tt)))))))))))))))
+allowed-other = (refl, (refl, ((leb-true _ _ refl, leb-true _ _ refl), (refl, (refl, (refl, (refl, (refl, (refl, (refl, (refl, (refl, (refl, (refl, (refl, (refl, (refl, (refl, (refl, (refl, (refl, tt)))))))))))))))))))))
 
 ready-there : acted (emptyStore 4 12) (sharedBefore 1) .ready ≡ true
 unfolding computed
@@ -71,29 +72,34 @@ own-stored = record { size = refl; shown = go }
     go zero l e = absurd (false≢true (sym e))
     go (suc k) l e = absurd (omega arith)
 
+plain-stored : CallAlike fourth (store 2 4 (fill 3) room) (store 2 4 (fill 103) room)
+unfolding computed fourth
+plain-stored = stored refl refl
+
 same-stored : (home : ℕ) (blocks : List ℕ) → BlocksAlike fourth home blocks blocks
 same-stored home blocks = record { size = refl; shown = λ k l e. refl }
 
-before-alike : Each (ActAlike fourth) (sharedBefore 1) (sharedBefore 101)
+before-alike : BeforeAlike fourth (sharedBefore 1) (sharedBefore 101)
 unfolding sharedBefore
-before-alike = more (called equal) (more (transacted both-stored) (more (transacted (same-stored 8 (firstWriters ++ nextWriters))) both))
+before-alike =
+    shares (shares (shares (shares (differs (more (transacted both-stored) (more (transacted (same-stored 8 (firstWriters ++ nextWriters))) both))))))
 
-after-alike : Each (ActAlike fourth) (sharedAfter 2) (sharedAfter 102)
+after-alike : Each (ActAlike fourth) (sharedAfter 2 3) (sharedAfter 102 103)
 unfolding sharedAfter
 after-alike =
     more fetched (more fetched (more fetched (more revised (more (transacted own-stored) (more revised (more (transacted (same-stored 4 (fill 7))) (more revised
-    (more (transacted (same-stored 3 (fill 7))) (more (called equal) (more fetched (more fetched both)))))))))))
+    (more (transacted (same-stored 3 (fill 7))) (more (called equal) (more (called plain-stored) (more (called equal) (more (called equal) (more fetched (more fetched both))))))))))))))
 
-never-four : neverFour (followedActs (newStore 4 12) (emptyStore 4 12) (sharedBefore 1)) (acted (emptyStore 4 12) (sharedBefore 1)) (expandAll (acted (emptyStore 4 12) (sharedBefore 1)) (sharedAfter 2)) ≡ true
-unfolding computed roomy storesFrom chain expand expandAll newStore firstGroup numbered withRound listOf lastAfter fencedAfter setFor promisesAfter storeMustLog afterReply follow followed afterService abstract-store.afterDone neverFour
+never-four : neverFour (followedActs (newStore 4 12) (emptyStore 4 12) (sharedBefore 1)) (acted (emptyStore 4 12) (sharedBefore 1)) (expandAll (acted (emptyStore 4 12) (sharedBefore 1)) (sharedAfter 2 3)) ≡ true
+unfolding computed roomy storesFrom chain expand expandAll newStore firstGroup numbered withRound listOf lastAfter fencedAfter setFor promisesAfter storeMustLog afterReply follow followed afterService abstract-store.afterDone abstract-store.afterCrash neverFour
 never-four = refl
 
 -- ---- so writer 1 is told the same
 
-pub told-together : SameThroughout 1 (acted (afterFormat format) (sharedBefore 1)) (acted (afterFormat format) (sharedBefore 101)) (sharedAfter 2) (sharedAfter 102)
+pub told-together : SameThroughout 1 (acted (afterFormat format) (sharedBefore 1)) (acted (afterFormat format) (sharedBefore 101)) (sharedAfter 2 3) (sharedAfter 102 103)
 told-together =
-    isolated-from-format 4 12 format format (sharedBefore 1) (sharedBefore 101) (sharedAfter 2) (sharedAfter 102) 1 fourth (rw (after-format format) allowed-one)
+    isolated-from-format 4 12 format format (sharedBefore 1) (sharedBefore 101) (sharedAfter 2 3) (sharedAfter 102 103) 1 fourth (rw (after-format format) allowed-one)
     (rw (after-format format) allowed-other) (rw (after-format format) ready-there) before-alike after-alike
     (rw (after-format format)
-    (denied-always (expandAll (acted (emptyStore 4 12) (sharedBefore 1)) (sharedAfter 2)) (followedActs (newStore 4 12) (emptyStore 4 12) (sharedBefore 1))
+    (denied-always (expandAll (acted (emptyStore 4 12) (sharedBefore 1)) (sharedAfter 2 3)) (followedActs (newStore 4 12) (emptyStore 4 12) (sharedBefore 1))
     (acted (emptyStore 4 12) (sharedBefore 1)) never-four))
