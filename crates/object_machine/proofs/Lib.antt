@@ -1,0 +1,3 @@
+pub mod ControlLaws
+pub mod TurnLaws
+pub mod ClaimsHold
