@@ -105,3 +105,23 @@ unfoldable pub shown : List ℕ
 shown =
     let l : Lent = reopened .lent in
     readTurn (reopened .control) (l .log) (l .area) (l .state) (l .newest) (zeros 64) 0 5 .kept
+
+-- Room: one place of the 28 is used, so a reserve of 28 finds too few.
+unfoldable pub reserving : Board → Board
+reserving b = asking b (askCall (b .control) 2 1 0 28)
+
+-- A round under way: two homes committed and synced, of which a maintain of one home has settled the first.
+unfoldable pub twoStored : Board
+twoStored = runs stored 3 0 6
+
+unfoldable pub twoSynced : Board
+twoSynced = runs (runs twoStored 4 0 0) 5 0 0
+
+unfoldable pub halfSettled : Board
+halfSettled = turnByTurn 40 (asking twoSynced (askCall (twoSynced .control) 16 0 0 1))
+
+-- A failure: the driver answers 5 to the first turn of the sync.
+unfoldable pub failing : Board
+failing =
+    let b : Board = asking committed (askCall (committed .control) 5 0 0 0) in
+    afterNext b (nextCall (b .control) (b .lent) 5)
