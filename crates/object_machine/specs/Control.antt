@@ -59,7 +59,7 @@ pub record FieldsFit (c : Control) : Type 0 where
   pub middle : (i : ℕ) → getD (middleFields c) i 0 < 256 ^ 8
   pub last : (i : ℕ) → getD (lastFields c) i 0 < 256 ^ 8
 
--- what a turn leaves in the block is what the next one finds
+-- what a turn leaves in the block is what the next one finds [S-88]
 abbrev pub ControlKept : Type 0
 ControlKept = (s : List ℕ) (c : Control) → length s ≡ 256 → FieldsFit c → controlOf (putControl s c) ≡ c
 

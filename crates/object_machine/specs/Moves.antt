@@ -83,6 +83,7 @@ settled st = eqb (st .settled) (st .fenced)
 unfoldable pub atStage : ℕ → State → ℕ
 atStage stage st = cond (underWay st) (getD callInRound stage 0) (getD callAt stage 0)
 
+-- the call that a stage makes, 0 for none [S-88]
 unfoldable pub chosen : Control → State → ℕ → ℕ
 chosen c st homes =
     cond (leb (c .stage) 18)
@@ -124,7 +125,7 @@ refuses c code groups st h =
 unfoldable pub headedAt : Control → State → ℕ
 headedAt c st = cond (eqb (c .stage) 1) (st .next) (c .headed)
 
--- a stage with a call
+-- a stage with a call, by what the call answered and left [S-88]
 unfoldable pub called : Control → ℕ → ℕ → ℕ → ℕ → State → Holder → Moved
 called c code figure size groups st h =
     cond (eqb code 0) (goesOn (withCursor c (c .at) (headedAt c st) (c .step)) (getD after (c .stage) 0) figure size) (refuses c code groups st h)
@@ -142,7 +143,7 @@ looks c st h =
 unfoldable pub more : State → ℕ
 more st = cond (underWay st || not (settled st)) 1 0
 
--- a stage without one
+-- a stage without one [S-88]
 unfoldable pub uncalled : Control → ℕ → ℕ → State → Holder → Moved
 uncalled c logSize areaSize st h =
     cond (eqb (c .stage) 19) (moved (withStage c 20) (load 0 logSize))

@@ -136,7 +136,7 @@ unfoldable pub lengthsRight : Lent → Bool
 lengthsRight l = logLengthRight (length (l .log)) && (dataLengthRight (length (l .area)) && eqb (length (l .state)) 1024)
 
 -- The next turn. `result` is what the driver's function returned for the last one, 0 if it was done or if there was nothing for the driver. 67: nothing is under
--- way; 1: a length is wrong, and all is as it was.
+-- way; 1: a length is wrong, and all is as it was. [S-88]
 unfoldable pub nextCall : List ℕ → Lent → ℕ → Left
 nextCall s l result =
     cond (eqb (length s) 256)
@@ -172,7 +172,7 @@ asks s c stage writer home n =
     cond (eqb (askAnswer c stage) 0) (asked pass (putControl s (withAsk c (conditionFor stage) stage writer home n)))
     (asked (refusal c (askAnswer c stage)) s)
 
--- an operation that begins with a stage
+-- an operation that begins with a stage [S-88]
 unfoldable pub askCall : List ℕ → ℕ → ℕ → ℕ → ℕ → Asked
 askCall s stage writer home n = cond (eqb (length s) 256) (asks s (controlOf s) stage writer home n) (asked (done 67 0) s)
 

@@ -70,7 +70,7 @@ fn ask(control: &mut [u8], stage: u64, writer: u64, home: u64, n: u64) -> Turn
 }
 
 // Makes a control block of 256 bytes: a store that is closed. `landing` is what the medium keeps whole (0 words of 8 bytes, 1 blocks of 64), `room` who makes room in
-// a full log (0 the operation that finds it full, 1 maintain alone), `lists` whether writer 0 may store to homes 8 to 11 (0: answered 68). 1: the length is wrong.
+// a full log (0 the operation that finds it full, 1 maintain alone), `lists` whether writer 0 may store to homes 8 to 11 (0: answered 68). 1: the length is wrong. [S-88]
 #[no_mangle]
 pub extern "C" fn kagutin_machine(control: &mut [u8], landing: u64, room: u64, lists: u64) -> Turn
     ensures { λ r. ⌜ asked r (now (control .exit)) ≡ initCall (now (control .entry)) landing room lists ⌝ }
@@ -82,7 +82,7 @@ pub extern "C" fn kagutin_machine(control: &mut [u8], landing: u64, room: u64, l
     done(0, 0)
 }
 
-// Loads both areas and opens the store; the figure is how many commits were brought back. 66: another operation is under way.
+// Loads both areas and opens the store; the figure is how many commits were brought back. 66: another operation is under way. [S-88]
 #[no_mangle]
 pub extern "C" fn kagutin_ask_open(control: &mut [u8]) -> Turn
     ensures { λ r. ⌜ asked r (now (control .exit)) ≡ askCall (now (control .entry)) 19 0 0 0 ⌝ }
@@ -90,7 +90,7 @@ pub extern "C" fn kagutin_ask_open(control: &mut [u8]) -> Turn
     ask(control, 19, 0, 0, 0)
 }
 
-// Begins a transaction and promises it places; makes room for them.
+// Begins a transaction and promises it places; makes room for them. [S-88]
 #[no_mangle]
 pub extern "C" fn kagutin_ask_reserve(control: &mut [u8], writer: u64, places: u64) -> Turn
     ensures { λ r. ⌜ asked r (now (control .exit)) ≡ askCall (now (control .entry)) 2 writer 0 places ⌝ }
@@ -98,7 +98,7 @@ pub extern "C" fn kagutin_ask_reserve(control: &mut [u8], writer: u64, places: u
     ask(control, 2, writer, 0, places)
 }
 
-// Stores the block that next is lent.
+// Stores the block that next is lent. [S-88]
 #[no_mangle]
 pub extern "C" fn kagutin_ask_store(control: &mut [u8], writer: u64, home: u64) -> Turn
     ensures { λ r. ⌜ asked r (now (control .exit)) ≡ askCall (now (control .entry)) 3 writer home 0 ⌝ }
@@ -106,7 +106,7 @@ pub extern "C" fn kagutin_ask_store(control: &mut [u8], writer: u64, home: u64) 
     ask(control, 3, writer, home, 0)
 }
 
-// Commits a writer's transaction; the figure is the ticket.
+// Commits a writer's transaction; the figure is the ticket. [S-88]
 #[no_mangle]
 pub extern "C" fn kagutin_ask_commit(control: &mut [u8], writer: u64) -> Turn
     ensures { λ r. ⌜ asked r (now (control .exit)) ≡ askCall (now (control .entry)) 4 writer 0 0 ⌝ }
@@ -114,7 +114,7 @@ pub extern "C" fn kagutin_ask_commit(control: &mut [u8], writer: u64) -> Turn
     ask(control, 4, writer, 0, 0)
 }
 
-// Flush, fence, confirm; the figure is the durable mark.
+// Flush, fence, confirm; the figure is the durable mark. [S-88]
 #[no_mangle]
 pub extern "C" fn kagutin_ask_sync(control: &mut [u8]) -> Turn
     ensures { λ r. ⌜ asked r (now (control .exit)) ≡ askCall (now (control .entry)) 5 0 0 0 ⌝ }
@@ -131,7 +131,7 @@ fn maintain_stage(most: u64) -> u64
     16
 }
 
-// Settles at most so many homes, 0 for no bound, and trims; the figure is 1 if there is more to do.
+// Settles at most so many homes, 0 for no bound, and trims; the figure is 1 if there is more to do. [S-88]
 #[no_mangle]
 pub extern "C" fn kagutin_ask_maintain(control: &mut [u8], most: u64) -> Turn
     ensures { λ r. ⌜ asked r (now (control .exit)) ≡ askCall (now (control .entry)) (maintainStage most) 0 0 most ⌝ }
@@ -153,7 +153,7 @@ fn ready(control: &[u8]) -> Turn
     refusal(c, shut(c))
 }
 
-// Begins a transaction, at once.
+// Begins a transaction, at once. [S-88]
 #[no_mangle]
 pub extern "C" fn kagutin_ask_begin(
     control: &[u8],
@@ -173,7 +173,7 @@ pub extern "C" fn kagutin_ask_begin(
     done(r.code, r.figure)
 }
 
-// Drops a transaction, at once.
+// Drops a transaction, at once. [S-88]
 #[no_mangle]
 pub extern "C" fn kagutin_ask_abort(
     control: &[u8],
@@ -193,7 +193,7 @@ pub extern "C" fn kagutin_ask_abort(
     done(r.code, r.figure)
 }
 
-// Reads a home as a writer sees it, at once.
+// Reads a home as a writer sees it, at once. [S-88]
 #[no_mangle]
 pub extern "C" fn kagutin_ask_read(
     control: &[u8],

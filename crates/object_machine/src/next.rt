@@ -200,7 +200,7 @@ fn under_way(c: Control) -> bool
 }
 
 // The next turn, with what the driver's function returned for the last one: 0 if it was done, or if there was nothing for the driver. A batch, the copies, the
-// state and the newest positions are lent as the last turn left them; the block is a store's. 67: nothing is under way; 1: a length is wrong.
+// state and the newest positions are lent as the last turn left them; the block is a store's. 67: nothing is under way; 1: a length is wrong. [S-88]
 #[no_mangle]
 pub extern "C" fn kagutin_next(
     control: &mut [u8],
