@@ -5,7 +5,7 @@ mod writers;
 use entries::committed_entries;
 use model::State;
 use model::Usage;
-use writers::holder;
+pub use writers::holder;
 use writers::open_entries;
 ghost use mathlib.Core.Path.{_≡_};
 ghost use mathlib.Core.List.{[]};

@@ -1,0 +1,4 @@
+pub mod ControlLaws
+pub mod TurnLaws
+pub mod ClaimsHold
+pub mod ExampleHolds

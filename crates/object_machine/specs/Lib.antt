@@ -1,0 +1,6 @@
+pub mod Control
+pub mod Calls
+pub mod Moves
+pub mod Next
+pub mod Claims
+pub mod Example
