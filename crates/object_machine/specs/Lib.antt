@@ -1,0 +1,4 @@
+pub mod Control
+pub mod Calls
+pub mod Moves
+pub mod Next
