@@ -148,7 +148,7 @@ module _ {G D : ℕ} (f : Formatting G D) where
 
 -- the records between the headers
 
-abbrev Unparted : Grain → Record → Type 0
+abbrev pub Unparted : Grain → Record → Type 0
 Unparted l (GW slot group) = parted l group ≡ false
 Unparted l (HW home block) = Unit {0}
 Unparted l (KW header) = Unit {0}
@@ -167,12 +167,12 @@ unfolding parted unusedGroup zeros part same
 unused-unparted words G start slot = refl
 unused-unparted blocks G start slot = refl
 
-unparted-blanks : (l : Grain) (G n : ℕ) → All (Unparted l) (blankWrites G 0 n)
+pub unparted-blanks : (l : Grain) (G start n : ℕ) → All (Unparted l) (blankWrites G start n)
 unfolding blankWrites
-unparted-blanks l G zero = tt
-unparted-blanks l G (suc n) = all-append (Unparted l) (blankWrites G 0 n) _ (unparted-blanks l G n) (unused-unparted l G 0 n, tt)
+unparted-blanks l G start zero = tt
+unparted-blanks l G start (suc n) = all-append (Unparted l) (blankWrites G start n) _ (unparted-blanks l G start n) (unused-unparted l G start n, tt)
 
-unparted-zeros : (l : Grain) (n : ℕ) → All (Unparted l) (zeroHomes n)
+pub unparted-zeros : (l : Grain) (n : ℕ) → All (Unparted l) (zeroHomes n)
 unfolding zeroHomes
 unparted-zeros l zero = tt
 unparted-zeros l (suc n) = all-append (Unparted l) (zeroHomes n) _ (unparted-zeros l n) (tt, tt)
@@ -271,7 +271,7 @@ module _ (l : Grain) {G D : ℕ} (f : Formatting G D) where
       (fits-zeros G D D (sizes f .homes))
 
   no-words-wait : firstWords l T ≡ []
-  no-words-wait = no-words l T (all-append (Unparted l) (blankWrites G 0 G) (zeroHomes D) (unparted-blanks l G G) (unparted-zeros l D))
+  no-words-wait = no-words l T (all-append (Unparted l) (blankWrites G 0 G) (zeroHomes D) (unparted-blanks l G 0 G) (unparted-zeros l D))
 
   between : motions l [] (T ++ (FN ∷ KW (header 0 G D) ∷ FN ∷ [])) ≡ puttings (bodies l T) ++ (wait ∷ (put (toLog 0 (header 0 G D)) ∷ wait ∷ []))
   unfolding puttings headsOut

@@ -4,3 +4,7 @@ pub mod GoesOnHolds
 pub mod ExampleHolds
 -- The code does what the definition says.
 pub mod ActionLaws
+pub mod WaitingLaws
+pub mod DueSteps
+pub mod CallWrites
+pub mod DueHolds

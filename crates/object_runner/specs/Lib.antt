@@ -1,3 +1,4 @@
 pub mod Next
 pub mod Moves
+pub mod Always
 pub mod Example
