@@ -1,2 +1,3 @@
 pub mod BareLaws
 pub mod HandLaws
+pub mod MadeLaws
