@@ -15,6 +15,7 @@ use Rattle.model_laws.proofs.trace.Trace.{Ev, hist, closerOf}
 use Rattle.model_laws.proofs.trace.TraceLaws.{All, Falling, Long, done-falling, done-long}
 use Rattle.theorems.proofs.invariant.Invariant.{Sizes, Matches, OldCommits, Commits}
 use Rattle.theorems.proofs.demands.Yields.{PastOwed}
+use Rattle.object_board.specs.Board.{AllOwed}
 
 -- ---- lists of commits
 
@@ -36,9 +37,6 @@ run-within fs (c ∷ cs) = go (allSurvive fs (c .entries)) (run-within fs cs)
     go true h = omega arith
     go false h = omega arith
 
-abbrev pub AllOwed : List Commit → Type 0
-AllOwed [] = Unit {0}
-AllOwed (c ∷ cs) = (c .owed ≡ true) × AllOwed cs
 
 ticket-owed : (mark ticket : ℕ) (owed : Bool) → (ticket ≡ 0 → owed ≡ true) → ticket ≤ mark → (owed || (leb 1 ticket && leb ticket mark)) ≡ true
 ticket-owed mark zero owed h l = rw (h refl)

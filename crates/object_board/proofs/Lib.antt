@@ -1,3 +1,4 @@
 pub mod BareLaws
 pub mod HandLaws
 pub mod MadeLaws
+pub mod Ways
