@@ -1,19 +1,20 @@
 -- Laws of the next action, one for each way that the code takes. Assumes nothing.
 use Prim.Native.Nat.{ℕ, _+_, _-_, _*_, _%_, _≤_, _<_}
-use mathlib.Core.Path.{_≡_, sym, ap, _∙_}
-use mathlib.Core.Bool.{Bool, true, false, not, false≢true}
+use mathlib.Core.Path.{_≡_, refl, sym, ap, _∙_}
+use mathlib.Core.Bool.{Bool, true, false, not, _&&_, false≢true}
 use mathlib.Core.List.{List}
 use native.Mathlib.Omega.{arith}
-use lib.Dec.{eqb, ltb}
+use lib.Dec.{eqb, leb, ltb}
 use lib.ListN.{length, drop, length-drop}
 use lib.Seq.{drop-drop}
-use borrow.Author.Tests.{le-leb, lt-leb, le-ltb, lt-ltb, eq-eqb, ne-eqb, ltb-true}
+use borrow.Author.Tests.{le-leb, lt-leb, le-ltb, lt-ltb, eq-eqb, ne-eqb, leb-true, ltb-true}
 use Rattle.model.specs.Bytes.{part, zeros, number, same}
 use Rattle.model.specs.Layout.{groupOffset}
 use Rattle.model.specs.Batch.{groupWriteMark, homeWriteMark, headerWriteMark, fenceMark}
+use Rattle.model_laws.proofs.state.QuestionLaws.{and-true}
 use Rattle.object_runner.specs.declared.Cursor.{Cursor}
 use Rattle.object_runner.specs.declared.Action.{Action}
-use Rattle.object_runner.specs.Next.{cursor, bare, write, past, parts, groupAction, homeAction, wiping, wholeHeader, wipeAction, headerAction, due, dueAction, fenceAction, recordAction, nextAction}
+use Rattle.object_runner.specs.Next.{cursor, bare, write, past, parts, groupAction, homeAction, wiping, wholeHeader, wipeAction, headerAction, due, dueAction, fenceAction, recordAction, asked, nextAction}
 
 -- the batch from an index on
 
@@ -193,55 +194,99 @@ module _ (batch : List ℕ) (words : Bool) (groups homes next : ℕ) (c : Cursor
 
 -- the call
 
-module _ (batch : List ℕ) (landing groups homes next : ℕ) (c : Cursor) (r : Action) where
+-- what may be asked
+
+module _ (landing groups next size : ℕ) (c : Cursor) where
+  pub asked-landing : 1 < landing → false ≡ asked landing groups next size c
+  unfolding asked
+  asked-landing h = rw (lt-leb landing 1 h)
+
+  module _ (h : landing ≤ 1) where
+    pub asked-none : groups < 1 → false ≡ asked landing groups next size c
+    unfolding asked
+    asked-none g = rw (le-leb landing 1 h, lt-leb 1 groups g)
+
+    module _ (g : 1 ≤ groups) where
+      pub asked-many : 1024 < groups → false ≡ asked landing groups next size c
+      unfolding asked
+      asked-many m = rw (le-leb landing 1 h, le-leb 1 groups g, lt-leb groups 1024 m)
+
+      module _ (m : groups ≤ 1024) where
+        pub asked-beyond : size < c .at → false ≡ asked landing groups next size c
+        unfolding asked
+        asked-beyond l = rw (le-leb landing 1 h, le-leb 1 groups g, le-leb groups 1024 m, lt-leb (c .at) size l)
+
+        module _ (l : c .at ≤ size) where
+          pub asked-headed : next < c .headed → false ≡ asked landing groups next size c
+          unfolding asked
+          asked-headed n = rw (le-leb landing 1 h, le-leb 1 groups g, le-leb groups 1024 m, le-leb (c .at) size l, lt-leb (c .headed) next n)
+
+          pub asked-stage : c .headed ≤ next → leb (c .stage) 2 ≡ asked landing groups next size c
+          unfolding asked
+          asked-stage n = rw (le-leb landing 1 h, le-leb 1 groups g, le-leb groups 1024 m, le-leb (c .at) size l, le-leb (c .headed) next n)
+
+pub record Asked (landing groups next size : ℕ) (c : Cursor) : Type 0 where
+  pub medium : landing ≤ 1
+  pub some : 1 ≤ groups
+  pub most : groups ≤ 1024
+  pub within : c .at ≤ size
+  pub low : c .headed ≤ next
+  pub step : c .stage ≤ 2
+
+pub asked-true : (landing groups next size : ℕ) (c : Cursor) → asked landing groups next size c ≡ true → Asked landing groups next size c
+unfolding asked
+asked-true landing groups next size c h =
+    let a₅ = and-true (leb landing 1 && leb 1 groups && leb groups 1024 && leb (c .at) size && leb (c .headed) next) (leb (c .stage) 2) h in
+    let a₄ = and-true (leb landing 1 && leb 1 groups && leb groups 1024 && leb (c .at) size) (leb (c .headed) next) (a₅ .0) in
+    let a₃ = and-true (leb landing 1 && leb 1 groups && leb groups 1024) (leb (c .at) size) (a₄ .0) in
+    let a₂ = and-true (leb landing 1 && leb 1 groups) (leb groups 1024) (a₃ .0) in
+    let a₁ = and-true (leb landing 1) (leb 1 groups) (a₂ .0) in
+    record {
+      medium = leb-true landing 1 (a₁ .0);
+      some = leb-true 1 groups (a₁ .1);
+      most = leb-true groups 1024 (a₂ .1);
+      within = leb-true (c .at) size (a₃ .1);
+      low = leb-true (c .headed) next (a₄ .1);
+      step = leb-true (c .stage) 2 (a₅ .1);
+    }
+
+pub true-asked : (landing groups next size : ℕ) (c : Cursor) → Asked landing groups next size c → asked landing groups next size c ≡ true
+true-asked landing groups next size c a =
+    sym (asked-stage landing groups next size c (a .medium) (a .some) (a .most) (a .within) (a .low)) ∙ le-leb (c .stage) 2 (a .step)
+
+-- by the answer to it
+pub not-asked : (landing groups next size : ℕ) (c : Cursor) (b : Bool) → b ≡ asked landing groups next size c → not b ≡ true → asked landing groups next size c ≡ false
+not-asked landing groups next size c true e h = absurd (false≢true h)
+not-asked landing groups next size c false e h = sym e
+
+pub was-asked : (landing groups next size : ℕ) (c : Cursor) (b : Bool) → b ≡ asked landing groups next size c → not b ≡ false → Asked landing groups next size c
+was-asked landing groups next size c true e h = asked-true landing groups next size c (sym e)
+was-asked landing groups next size c false e h = absurd (false≢true (sym h))
+
+module _ (batch : List ℕ) (landing groups homes next : ℕ) (c : Cursor) (r : Action) (b : Bool) (q : b ≡ asked landing groups next (length batch) c) where
   abbrev told : Type 0
   told = r ≡ nextAction landing groups homes next batch c
 
-  pub next-landing : 1 < landing → r ≡ bare 3 c → told
+  pub next-refused : not b ≡ true → r ≡ bare 3 c → told
   unfolding nextAction
-  next-landing h e = rw (lt-leb landing 1 h) e
+  next-refused h e = rw (not-asked landing groups next (length batch) c b q h) e
 
-  module _ (h : landing ≤ 1) where
-    pub next-none : groups < 1 → r ≡ bare 3 c → told
+  module _ (h : not b ≡ false) where
+    a : Asked landing groups next (length batch) c
+    a = was-asked landing groups next (length batch) c b q h
+
+    may : asked landing groups next (length batch) c ≡ true
+    may = true-asked landing groups next (length batch) c a
+
+    pub next-done : c .at ≡ length batch → r ≡ bare 0 c → told
     unfolding nextAction
-    next-none g e = rw (le-leb landing 1 h, lt-leb 1 groups g) e
+    next-done d e = rw (may, eq-eqb (c .at) (length batch) d) e
 
-    pub next-many : 1 ≤ groups → 1024 < groups → r ≡ bare 3 c → told
-    unfolding nextAction
-    next-many g m e = rw (le-leb landing 1 h, le-leb 1 groups g, lt-leb groups 1024 m) e
-
-    module _ (g : 1 ≤ groups) (m : groups ≤ 1024) where
-      pub next-beyond : length batch < c .at → r ≡ bare 3 c → told
+    module _ (n : c .at ≡ length batch → ⊥) where
+      pub next-short : length batch - c .at < 2 → r ≡ bare 3 c → told
       unfolding nextAction
-      next-beyond l e = rw (le-leb landing 1 h, le-leb 1 groups g, le-leb groups 1024 m, lt-leb (c .at) (length batch) l) e
+      next-short s e = rw (may, ne-eqb (c .at) (length batch) n, lt-leb (c .at + 2) (length batch) (omega (arith, a .within))) e
 
-      pub next-done : c .at ≤ length batch → c .at ≡ length batch → r ≡ bare 0 c → told
+      pub next-record : (w : Bool) → w ≡ eqb landing 0 → 2 ≤ length batch - c .at → r ≡ recordAction w groups homes next (drop (c .at) batch) c → told
       unfolding nextAction
-      next-done l q e =
-          rw (le-leb landing 1 h, le-leb 1 groups g, le-leb groups 1024 m, le-leb (c .at) (length batch) l, eq-eqb (c .at) (length batch) q) e
-
-      module _ (l : c .at ≤ length batch) (n : c .at ≡ length batch → ⊥) where
-        pub next-short : length batch - c .at < 2 → r ≡ bare 3 c → told
-        unfolding nextAction
-        next-short s e =
-            rw (
-              le-leb landing 1 h,
-              le-leb 1 groups g,
-              le-leb groups 1024 m,
-              le-leb (c .at) (length batch) l,
-              ne-eqb (c .at) (length batch) n,
-              lt-leb (c .at + 2) (length batch) (omega arith),
-            ) e
-
-        pub next-record : (w : Bool) → w ≡ eqb landing 0 → 2 ≤ length batch - c .at → r ≡ recordAction w groups homes next (drop (c .at) batch) c → told
-        unfolding nextAction
-        next-record w q s e =
-            rw (
-              le-leb landing 1 h,
-              le-leb 1 groups g,
-              le-leb groups 1024 m,
-              le-leb (c .at) (length batch) l,
-              ne-eqb (c .at) (length batch) n,
-              le-leb (c .at + 2) (length batch) (omega arith),
-              ← q,
-            ) e
+      next-record w l s e = rw (may, ne-eqb (c .at) (length batch) n, le-leb (c .at + 2) (length batch) (omega (arith, a .within)), ← l) e

@@ -44,20 +44,20 @@ use Rattle.object_runner.proofs.DueSteps.{headedOf, headed-next, start-
 
 -- ---- records in the store's shape
 
-abbrev pub Inside : ℕ → ℕ → Record → Type 0
-Inside G D (GW slot group) = slot < G
-Inside G D (HW home block) = home < D
-Inside G D (KW header) = Unit {0}
-Inside G D FN = Unit {0}
+abbrev pub InStore : ℕ → ℕ → Record → Type 0
+InStore G D (GW slot group) = slot < G
+InStore G D (HW home block) = home < D
+InStore G D (KW header) = Unit {0}
+InStore G D FN = Unit {0}
 
-pub fitting-formed : (G D : ℕ) (rs : List Record) → AllFormed rs → All (Inside G D) rs → Fitting G D rs
+pub fitting-formed : (G D : ℕ) (rs : List Record) → AllFormed rs → All (InStore G D) rs → Fitting G D rs
 fitting-formed G D [] f i = tt
 fitting-formed G D (GW slot group ∷ rs) f i = ((i .0, f .0 .1), fitting-formed G D rs (f .1) (i .1))
 fitting-formed G D (HW home block ∷ rs) f i = ((i .0, f .0 .1), fitting-formed G D rs (f .1) (i .1))
 fitting-formed G D (KW header ∷ rs) f i = (f .0, fitting-formed G D rs (f .1) (i .1))
 fitting-formed G D (FN ∷ rs) f i = fitting-formed G D rs (f .1) (i .1)
 
-pub homes-inside : (G D : ℕ) (area hs : List ℕ) → ((h : ℕ) → In h hs → h < D) → All (Inside G D) (homeWrites area hs)
+pub homes-inside : (G D : ℕ) (area hs : List ℕ) → ((h : ℕ) → In h hs → h < D) → All (InStore G D) (homeWrites area hs)
 unfolding homeWrites
 homes-inside G D area [] b = tt
 homes-inside G D area (x ∷ hs) b = (b x (inl refl), homes-inside G D area hs (λ h i. b h (inr i)))
@@ -126,7 +126,7 @@ module _ (G D : ℕ) (z : Sizes G D) (w : World) (r : Running G D w) where
       }
 
   -- homes, and perhaps a fence
-  fence-inside : (t : Bool) → All (Inside G D) (cond t (FN ∷ []) [])
+  fence-inside : (t : Bool) → All (InStore G D) (cond t (FN ∷ []) [])
   fence-inside true = (tt, tt)
   fence-inside false = tt
 
@@ -141,7 +141,7 @@ module _ (G D : ℕ) (z : Sizes G D) (w : World) (r : Running G D w) where
         kept = λ n a b. ap (λ (x : List ℕ). groupAt x (n % G)) l;
         fitting =
             fitting-formed G D (e .records) f
-            (subst (All (Inside G D)) (sym q) (all-append (Inside G D) (homeWrites area hs) (cond t (FN ∷ []) []) (homes-inside G D area hs b) (fence-inside t)));
+            (subst (All (InStore G D)) (sym q) (all-append (InStore G D) (homeWrites area hs) (cond t (FN ∷ []) []) (homes-inside G D area hs b) (fence-inside t)));
       }
 
   -- ---- an entry logged
@@ -194,7 +194,7 @@ module _ (G D : ℕ) (z : Sizes G D) (w : World) (r : Running G D w) where
               is = records-are true t;
               what = inr (record { one = refl; marked = has-mark t });
               kept = kept-other;
-              fitting = fitting-formed G D (e .records) f (subst (All (Inside G D)) (sym (records-are true t)) (slot-lt, tt));
+              fitting = fitting-formed G D (e .records) f (subst (All (InStore G D)) (sym (records-are true t)) (slot-lt, tt));
             }
         go false t =
             record {

@@ -40,8 +40,8 @@ use Rattle.object_runner.specs.Moves.{wordsFrom, wordsDue, headedAt, hea
 use Rattle.object_runner.specs.Always.{batchOf, recordsOf, nextOf, headedBefore, BatchDue, DueAlways}
 use Rattle.object_runner.proofs.GoesOnHolds.{blocks-due}
 use Rattle.object_runner.proofs.WaitingLaws.{waiting-append, waiting-blocks, no-words}
-use Rattle.object_runner.proofs.DueSteps.{headedOf, waitingOf, Waits, headed-next, Written, due-words, waits-on, headed-on, next-low}
-use Rattle.object_runner.proofs.CallWrites.{Inside, fitting-formed, homes-inside, Wrote, call-wrote}
+use Rattle.object_runner.proofs.DueSteps.{headedOf, waitingOf, Waits, headed-next, Written, due-words, waits-on, headed-on, next-low, next-mono}
+use Rattle.object_runner.proofs.CallWrites.{InStore, fitting-formed, homes-inside, Wrote, call-wrote}
 
 -- ---- records that read back
 
@@ -52,6 +52,11 @@ formed-fitting G D g d (GW slot group ∷ rs) f = ((omega (arith, f .0 .0), f .0
 formed-fitting G D g d (HW home block ∷ rs) f = ((omega (arith, f .0 .0), f .0 .1), formed-fitting G D g d rs (f .1))
 formed-fitting G D g d (KW header ∷ rs) f = (f .0, formed-fitting G D g d rs (f .1))
 formed-fitting G D g d (FN ∷ rs) f = (tt, formed-fitting G D g d rs f)
+
+-- what a done call puts into its buffer
+pub batch-done : (g : Given) (e : Effect) → sizeOf e ≤ length (g .batch) → batchOf (done g e) ≡ batchBytes (e .records)
+unfolding batchOf done sizeOf
+batch-done g e l = taken (batchBytes (e .records)) (g .batch) l
 
 -- ---- groups without a first word, which an opening and a format write
 
@@ -105,10 +110,10 @@ unfolding homeWrites
 unparted-homes l area [] = tt
 unparted-homes l area (x ∷ hs) = (tt, unparted-homes l area hs)
 
-blanks-inside : (G D start n : ℕ) → n ≤ G → All (Inside G D) (blankWrites G start n)
+blanks-inside : (G D start n : ℕ) → n ≤ G → All (InStore G D) (blankWrites G start n)
 unfolding blankWrites
 blanks-inside G D start zero h = tt
-blanks-inside G D start (suc n) h = all-append (Inside G D) (blankWrites G start n) _ (blanks-inside G D start n (omega arith)) (omega arith, tt)
+blanks-inside G D start (suc n) h = all-append (InStore G D) (blankWrites G start n) _ (blanks-inside G D start n (omega arith)) (omega arith, tt)
 
 -- ---- a done call, by its row
 
@@ -137,7 +142,7 @@ read-call w c h f l =
     e = rowOf w c .effect
 
     bytes-are : batchOf (ends w c) ≡ batchBytes (e .records)
-    bytes-are = ap batchOf (row-done w c h) ∙ (unfold batchOf done sizeOf in taken (batchBytes (e .records)) (g .batch) (unfold sizeOf in l))
+    bytes-are = ap batchOf (row-done w c h) ∙ batch-done g e l
 
 module _ (l : Grain) (G D : ℕ) (w : World) (c : Call) (k : Read w c) where
   abbrev e : Effect
@@ -170,6 +175,7 @@ pub record Moment (G D : ℕ) (w : World) (c : Call) : Type 0 where
   pub records : recordsOf (ends w c) ≡ rowOf w c .effect .records
   pub state : ends w c .state ≡ rowOf w c .effect .state
   pub waits : Waits G (step w (call c))
+  pub grows : isOpening c ≡ false → stateOf (w .state) .next ≤ nextOf (ends w c)
 
 pub running : (G D : ℕ) (w : World) → Invariant G D w → w .ready ≡ true → Running G D w
 running G D w (inl k) h = absurd (false≢true (sym (k .ready) ∙ h))
@@ -195,6 +201,7 @@ module _ (G D : ℕ) (z : Sizes G D) (w : World) (i : Invariant G D w) (j : Wait
         records = k .records;
         state = k .state;
         waits = rw (k .world) (waits-on G D w r y c E r′ (x .written));
+        grows = λ q. rw (next-is words G D w c k) (next-mono G D w r y c E r′ (x .written));
       }
     where
       x : Wrote G D w c
@@ -235,11 +242,11 @@ module _ (G D : ℕ) (z : Sizes G D) (w : World) (q : Closed G D w) (state newes
       all-append (Unparted l) (homeWrites X (hs G D z (w .memory) X (q .opens))) _ (unparted-homes l X (hs G D z (w .memory) X (q .opens)))
       (tt, (tt, (tt, all-append (Unparted l) (blankWrites G _ G) (FN ∷ []) (unparted-blanks l G _ G) (tt, tt))))
 
-  inside : All (Inside G D) R
+  inside : All (InStore G D) R
   inside =
-      all-append (Inside G D) (homeWrites X (hs G D z (w .memory) X (q .opens))) _
+      all-append (InStore G D) (homeWrites X (hs G D z (w .memory) X (q .opens))) _
       (homes-inside G D X (hs G D z (w .memory) X (q .opens)) (touched-below G D z (w .memory) X (q .opens)))
-      (tt, (tt, (tt, all-append (Inside G D) (blankWrites G _ G) (FN ∷ []) (blanks-inside G D _ G (omega arith)) (tt, tt))))
+      (tt, (tt, (tt, all-append (InStore G D) (blankWrites G _ G) (FN ∷ []) (blanks-inside G D _ G (omega arith)) (tt, tt))))
 
   formed₀ : AllFormed (E₀ .records)
   unfolding rowOf
@@ -288,6 +295,7 @@ module _ (G D : ℕ) (z : Sizes G D) (w : World) (q : Closed G D w) (state newes
         records = k₀ .records;
         state = k₀ .state;
         waits = rw (k₀ .world) (none₀ ∙ sym (ap (wordsFrom G (E₀ .log) (headedOf u₀)) (omega (arith, at-next₀)) ∙ no-words G (E₀ .log) (headedOf u₀)));
+        grows = λ p. absurd (false≢true (unfold isOpening in sym p));
       }
 
 -- ---- every call, and every history

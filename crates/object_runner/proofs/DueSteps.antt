@@ -186,6 +186,9 @@ module _ (G D : ℕ) (w : World) (r : Running G D w) (j : Waits G w) (c : Call) 
           ∙ ap (λ (y : ℕ). wordsFrom G (e .log) h (next - h) ++ (wordAt G (e .log) y ∷ [])) m ∙ words-more G (e .log) h (next - h)
           ∙ ap (wordsFrom G (e .log) h) n
 
+  pub next-mono : next ≤ next′
+  next-mono = omega (arith, next-grows)
+
   pub next-low : h ≤ next′
   next-low = omega (arith, next-grows, headed-next G D w r)
 

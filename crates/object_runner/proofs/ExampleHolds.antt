@@ -46,4 +46,4 @@ due-there = (refl, tt)
 pub moves-there : Hands words 4 8 next (batchBytes records) (flushed .log) (cursor 0 headed 0) (motions words (waitingAfter words [] (before .pending)) records)
     (headedAfter words headed next records)
 moves-there =
-    runner-moves words 4 8 next headed (flushed .log) (waitingAfter words [] (before .pending)) records (omega arith) (omega arith) (omega arith) fitting due-there
+    runner-moves words 4 8 next headed (flushed .log) (waitingAfter words [] (before .pending)) records (omega arith) (omega arith) (omega arith) (omega (arith, two-due, from-four)) fitting due-there

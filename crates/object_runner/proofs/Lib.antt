@@ -8,3 +8,6 @@ pub mod WaitingLaws
 pub mod DueSteps
 pub mod CallWrites
 pub mod DueHolds
+pub mod CarriesHold
+pub mod FormatHands
+pub mod InsideHolds

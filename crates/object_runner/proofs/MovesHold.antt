@@ -21,7 +21,8 @@ use Rattle.object.proofs.ChopLaws.{part-zero}
 use Rattle.object.proofs.HeadLaws.{rest-drop}
 use Rattle.object_runner.specs.declared.Cursor.{Cursor}
 use Rattle.object_runner.specs.declared.Action.{Action}
-use Rattle.object_runner.specs.Next.{cursor, done, fencing, logArea, homesArea, fromBatch, fromCopy, bare, write, past, parts, groupAction, homeAction, wiping, wholeHeader, wipeAction, headerAction, due, dueAction, fenceAction, recordAction, nextAction}
+use Rattle.object_runner.specs.Next.{cursor, done, fencing, logArea, homesArea, fromBatch, fromCopy, bare, write, past, parts, groupAction, homeAction, wiping, wholeHeader, wipeAction, headerAction, due, dueAction, fenceAction, recordAction, asked, nextAction}
+use Rattle.object_runner.proofs.ActionLaws.{Asked, true-asked}
 use Rattle.object_runner.specs.Moves.{landingOf, bytesOf, pieceOf, Hands, wordsFrom, wordsDue, headedAt, headedAfter, Due, Fitting, RunnerMoves}
 
 unfoldable isWords : Grain → Bool
@@ -48,12 +49,12 @@ module _ (l : Grain) (G D next : ℕ) (log : List ℕ) (g₁ : 1 ≤ G) (g₂ : 
   abbrev act : List ℕ → Cursor → Action
   act batch c = nextAction (landingOf l) G D next batch c
 
-  landing-low : leb (landingOf l) 1 ≡ true
+  landing-low : landingOf l ≤ 1
   landing-low = go l
     where
-      go : (k : Grain) → leb (landingOf k) 1 ≡ true
-      go words = unfold landingOf in le-leb 0 1 (omega arith)
-      go blocks = unfold landingOf in le-leb 1 1 (omega arith)
+      go : (k : Grain) → landingOf k ≤ 1
+      go words = unfold landingOf in (omega arith)
+      go blocks = unfold landingOf in (omega arith)
 
   landing-words : eqb (landingOf l) 0 ≡ isWords l
   landing-words = go l
@@ -62,23 +63,24 @@ module _ (l : Grain) (G D next : ℕ) (log : List ℕ) (g₁ : 1 ≤ G) (g₂ : 
       go words = unfold landingOf isWords in eq-eqb 0 0 refl
       go blocks = unfold landingOf isWords in ne-eqb 1 0 (λ e. omega (arith, e))
 
+  may-ask : (batch : List ℕ) (at headed stage : ℕ) → at ≤ length batch → headed ≤ next → stage ≤ 2
+      → asked (landingOf l) G next (length batch) (cursor at headed stage) ≡ true
+  may-ask batch at headed stage a b c =
+      true-asked (landingOf l) G next (length batch) (cursor at headed stage) (record { medium = landing-low; some = g₁; most = g₂; within = a; low = b; step = c })
+
   -- at the end
-  act-done : (batch : List ℕ) (headed : ℕ) → act batch (cursor (length batch) headed 0) ≡ bare done (cursor (length batch) headed 0)
+  act-done : (batch : List ℕ) (headed : ℕ) → headed ≤ next → act batch (cursor (length batch) headed 0) ≡ bare done (cursor (length batch) headed 0)
   unfolding nextAction
-  act-done batch headed =
-      rw (landing-low, le-leb 1 G g₁, le-leb G 1024 g₂, le-leb (length batch) (length batch) (omega arith), eq-eqb (length batch) (length batch) refl)
+  act-done batch headed low = rw (may-ask batch (length batch) headed 0 (omega arith) low (omega arith), eq-eqb (length batch) (length batch) refl)
 
   -- at a record
-  act-record : (front X : List ℕ) (headed stage : ℕ) → 2 ≤ length X
+  act-record : (front X : List ℕ) (headed stage : ℕ) → 2 ≤ length X → headed ≤ next → stage ≤ 2
       → act (front ++ X) (cursor (length front) headed stage) ≡ recordAction (isWords l) G D next X (cursor (length front) headed stage)
   unfolding nextAction
-  act-record front X headed stage h =
+  act-record front X headed stage h low s =
       let e : length (front ++ X) ≡ length front + length X = length-append front X in
       rw (
-        landing-low,
-        le-leb 1 G g₁,
-        le-leb G 1024 g₂,
-        le-leb (length front) (length (front ++ X)) (omega (arith, e)),
+        may-ask (front ++ X) (length front) headed stage (omega (arith, e)) low s,
         ne-eqb (length front) (length (front ++ X)) (λ q. omega (arith, e, q, h)),
         le-leb (length front + 2) (length (front ++ X)) (omega (arith, e, h)),
         drop-at front X (length front) refl,
@@ -121,7 +123,7 @@ module _ (l : Grain) (G D next : ℕ) (log : List ℕ) (g₁ : 1 ≤ G) (g₂ : 
 
   -- ---- groups
 
-  module _ (front B : List ℕ) (slot : ℕ) (group : List ℕ) (f : (slot < G) × (length group ≡ 512)) (headed : ℕ) where
+  module _ (front B : List ℕ) (slot : ℕ) (group : List ℕ) (f : (slot < G) × (length group ≡ 512)) (headed : ℕ) (low : headed ≤ next) where
     abbrev X : List ℕ
     X = recordBytes (GW slot group) ++ B
 
@@ -150,7 +152,7 @@ module _ (l : Grain) (G D next : ℕ) (log : List ℕ) (g₁ : 1 ≤ G) (g₂ : 
         (write logArea (groupOffset slot) 512 fromBatch (length front + 4) (cursor (length front + 516) headed 0))
     unfolding groupAction past
     group-act t e =
-        act-record front X headed 0 (omega (arith, long)) ∙ by-mark
+        act-record front X headed 0 (omega (arith, long)) low (omega arith) ∙ by-mark
         ∙ rw (le-leb 516 (length X) long, number-GW slot group B (omega (arith, f .0)), lt-ltb slot G (f .0), parts-is, e) refl
 
     part-rest : part (front ++ X) (length front + 4 + 8) 504 ≡ drop 8 group
@@ -184,7 +186,7 @@ module _ (l : Grain) (G D next : ℕ) (log : List ℕ) (g₁ : 1 ≤ G) (g₂ : 
 
   -- ---- homes
 
-  module _ (front B : List ℕ) (home : ℕ) (block : List ℕ) (f : (home < D) × (length block ≡ 64)) (headed : ℕ) where
+  module _ (front B : List ℕ) (home : ℕ) (block : List ℕ) (f : (home < D) × (length block ≡ 64)) (headed : ℕ) (low : headed ≤ next) where
     abbrev XH : List ℕ
     XH = recordBytes (HW home block) ++ B
 
@@ -201,7 +203,7 @@ module _ (l : Grain) (G D next : ℕ) (log : List ℕ) (g₁ : 1 ≤ G) (g₂ : 
     home-act : act (front ++ XH) cH ≡ write homesArea (64 * home) 64 fromBatch (length front + 4) (cursor (length front + 68) headed 0)
     unfolding homeAction past
     home-act =
-        act-record front XH headed 0 (omega (arith, home-long)) ∙ home-mark
+        act-record front XH headed 0 (omega (arith, home-long)) low (omega arith) ∙ home-mark
         ∙ rw (le-leb 68 (length XH) home-long, number-HW home block B (omega (arith, f .0, d)), lt-ltb home D (f .0)) refl
 
     home-hands : (ms : List Motion) (h : ℕ)
@@ -215,7 +217,7 @@ module _ (l : Grain) (G D next : ℕ) (log : List ℕ) (g₁ : 1 ≤ G) (g₂ : 
 
   -- ---- headers
 
-  module _ (front B header : List ℕ) (f : length header ≡ 64) (headed : ℕ) where
+  module _ (front B header : List ℕ) (f : length header ≡ 64) (headed : ℕ) (low : headed ≤ next) where
     abbrev XK : List ℕ
     XK = recordBytes (KW header) ++ B
 
@@ -226,11 +228,11 @@ module _ (l : Grain) (G D next : ℕ) (log : List ℕ) (g₁ : 1 ≤ G) (g₂ : 
     unfolding recordAction recordBytes part same
     header-mark c = refl
 
-    header-act : (stage : ℕ) → act (front ++ XK) (cursor (length front) headed stage)
+    header-act : (stage : ℕ) → stage ≤ 2 → act (front ++ XK) (cursor (length front) headed stage)
         ≡ cond (wiping (isWords l) XK) (wipeAction stage (cursor (length front) headed stage)) (wholeHeader (cursor (length front) headed stage))
     unfolding headerAction
-    header-act stage =
-        act-record front XK headed stage (omega (arith, header-long)) ∙ header-mark (cursor (length front) headed stage)
+    header-act stage s =
+        act-record front XK headed stage (omega (arith, header-long)) low s ∙ header-mark (cursor (length front) headed stage)
         ∙ rw (le-leb 66 (length XK) header-long) refl
 
     whole-is : (stage : ℕ) → wholeHeader (cursor (length front) headed stage) ≡ write logArea 0 64 fromBatch (length front + 2) (cursor (length front + 66) headed 0)
@@ -275,9 +277,9 @@ module _ (l : Grain) (G D next : ℕ) (log : List ℕ) (g₁ : 1 ≤ G) (g₂ : 
     unfolding wipeAction
     wiped-hands ms h w k =
         let a₀ : act (front ++ XK) (cursor (length front) headed 0) ≡ write logArea 0 8 fromBatch (length front + 2) (cursor (length front) headed 1) =
-        header-act 0 ∙ rw w refl in
-        let a₁ : act (front ++ XK) (cursor (length front) headed 1) ≡ bare fencing (cursor (length front) headed 2) = header-act 1 ∙ rw w refl in
-        let a₂ : act (front ++ XK) (cursor (length front) headed 2) ≡ wholeHeader (cursor (length front) headed 2) = header-act 2 ∙ rw w refl in
+        header-act 0 (omega arith) ∙ rw w refl in
+        let a₁ : act (front ++ XK) (cursor (length front) headed 1) ≡ bare fencing (cursor (length front) headed 2) = header-act 1 (omega arith) ∙ rw w refl in
+        let a₂ : act (front ++ XK) (cursor (length front) headed 2) ≡ wholeHeader (cursor (length front) headed 2) = header-act 2 (omega arith) ∙ rw w refl in
         hand-write (front ++ XK) (cursor (length front) headed 0) logArea 0 8 fromBatch (length front + 2) (length front) headed 1
         (toLog 0 (take 8 header)) (wait ∷ put (toLog 0 header) ∷ ms) h a₀
         (piece-log (front ++ XK) 0 8 (length front + 2) (cursor (length front) headed 1) ∙ ap (toLog 0) first-word)
@@ -293,8 +295,8 @@ module _ (l : Grain) (G D next : ℕ) (log : List ℕ) (g₁ : 1 ≤ G) (g₂ : 
             → same (part header 0 8) (zeros 8) ≡ t
             → Hands l G D next (front ++ XK) log (cursor (length front) headed 0) (wipe n header ++ (put (toLog 0 header) ∷ ms)) h
         go on words q true e = rw e (wiped-hands ms h (rw (q, first-part, e) refl) on)
-        go on words q false e = rw e (plain-hands ms h 0 (header-act 0 ∙ rw (q, first-part, e) refl) on)
-        go on blocks q t e = plain-hands ms h 0 (header-act 0 ∙ rw q refl) on
+        go on words q false e = rw e (plain-hands ms h 0 (header-act 0 (omega arith) ∙ rw (q, first-part, e) refl) on)
+        go on blocks q t e = plain-hands ms h 0 (header-act 0 (omega arith) ∙ rw q refl) on
 
   -- ---- fences
 
@@ -302,9 +304,9 @@ module _ (l : Grain) (G D next : ℕ) (log : List ℕ) (g₁ : 1 ≤ G) (g₂ : 
     abbrev XF : List ℕ
     XF = recordBytes FN ++ B
 
-    fence-act : (headed stage : ℕ) → act (front ++ XF) (cursor (length front) headed stage) ≡ fenceAction (isWords l) G next (cursor (length front) headed stage)
-    fence-act headed stage =
-        act-record front XF headed stage (omega (arith, length-append (recordBytes FN) B, length-FN)) ∙ (unfold recordAction recordBytes part same in refl)
+    fence-act : (headed stage : ℕ) → headed ≤ next → stage ≤ 2 → act (front ++ XF) (cursor (length front) headed stage) ≡ fenceAction (isWords l) G next (cursor (length front) headed stage)
+    fence-act headed stage low s =
+        act-record front XF headed stage (omega (arith, length-append (recordBytes FN) B, length-FN)) low s ∙ (unfold recordAction recordBytes part same in refl)
 
     on-fence : (headed : ℕ) (ms : List Motion) (h : ℕ)
         → Hands l G D next ((front ++ recordBytes FN) ++ B) log (cursor (length (front ++ recordBytes FN)) headed 0) ms h
@@ -312,12 +314,12 @@ module _ (l : Grain) (G D next : ℕ) (log : List ℕ) (g₁ : 1 ≤ G) (g₂ : 
     on-fence headed ms h k = onward front (recordBytes FN) B 2 headed ms h length-FN k
 
     -- no first word is due
-    last-hands : (headed stage : ℕ) (ms : List Motion) (h : ℕ) → due (isWords l) headed next ≡ false
+    last-hands : (headed stage : ℕ) (ms : List Motion) (h : ℕ) → headed ≤ next → stage ≤ 2 → due (isWords l) headed next ≡ false
         → Hands l G D next (front ++ XF) log (cursor (length front + 2) headed 0) ms h
         → Hands l G D next (front ++ XF) log (cursor (length front) headed stage) (wait ∷ ms) h
     unfolding fenceAction past
-    last-hands headed stage ms h e k =
-        hand-fence (front ++ XF) (cursor (length front) headed stage) (length front + 2) headed 0 ms h (fence-act headed stage ∙ rw e refl) k
+    last-hands headed stage ms h low s e k =
+        hand-fence (front ++ XF) (cursor (length front) headed stage) (length front + 2) headed 0 ms h (fence-act headed stage low s ∙ rw e refl) k
 
     not-due : (headed : ℕ) → next - headed ≡ 0 → due (isWords l) headed next ≡ false
     unfolding due
@@ -333,62 +335,69 @@ module _ (l : Grain) (G D next : ℕ) (log : List ℕ) (g₁ : 1 ≤ G) (g₂ : 
       is-due headed n e = rw (w, lt-ltb headed next (omega (arith, e)))
 
       -- n first words are due, and the fence before them has been
-      words-hand : (n headed : ℕ) (ms : List Motion) (h : ℕ) → next - headed ≡ n
+      words-hand : (n headed : ℕ) (ms : List Motion) (h : ℕ) → headed ≤ next → next - headed ≡ n
           → Hands l G D next (front ++ XF) log (cursor (length front + 2) (headed + n) 0) ms h
           → Hands l G D next (front ++ XF) log (cursor (length front) headed 1) (wordsFrom G log headed n ++ (wait ∷ ms)) h
       unfolding wordsFrom fenceAction dueAction
-      words-hand zero headed ms h e k =
+      words-hand zero headed ms h low e k =
           let z : headed + 0 ≡ headed = omega arith in
-          last-hands headed 1 ms h (not-due headed e) (rw z at k)
-      words-hand (suc n) headed ms h e k =
+          last-hands headed 1 ms h low (omega arith) (not-due headed e) (rw z at k)
+      words-hand (suc n) headed ms h low e k =
           let z : headed + suc n ≡ headed + 1 + n = omega arith in
           let o : ℕ = groupOffset (headed % G) in
           hand-write (front ++ XF) (cursor (length front) headed 1) logArea o 8 fromCopy o (length front) (headed + 1) 1 (toLog o (part log o 8))
-          (wordsFrom G log (headed + 1) n ++ (wait ∷ ms)) h (fence-act headed 1 ∙ rw (is-due headed n e) refl)
-          (piece-copy (front ++ XF) o 8 o (cursor (length front) (headed + 1) 1)) (words-hand n (headed + 1) ms h (omega (arith, e)) (rw z at k))
+          (wordsFrom G log (headed + 1) n ++ (wait ∷ ms)) h (fence-act headed 1 low (omega arith) ∙ rw (is-due headed n e) refl)
+          (piece-copy (front ++ XF) o 8 o (cursor (length front) (headed + 1) 1)) (words-hand n (headed + 1) ms h (omega (arith, e)) (omega (arith, e)) (rw z at k))
 
-      due-hands : (n headed : ℕ) (ms : List Motion) (h : ℕ) → next - headed ≡ n
+      due-hands : (n headed : ℕ) (ms : List Motion) (h : ℕ) → headed ≤ next → next - headed ≡ n
           → Hands l G D next (front ++ XF) log (cursor (length front + 2) (headed + n) 0) ms h
           → Hands l G D next (front ++ XF) log (cursor (length front) headed 0) (headsOut (wordsFrom G log headed n) ++ (wait ∷ ms)) h
       unfolding wordsFrom headsOut fenceAction dueAction
-      due-hands zero headed ms h e k =
+      due-hands zero headed ms h low e k =
           let z : headed + 0 ≡ headed = omega arith in
-          last-hands headed 0 ms h (not-due headed e) (rw z at k)
-      due-hands (suc n) headed ms h e k =
+          last-hands headed 0 ms h low (omega arith) (not-due headed e) (rw z at k)
+      due-hands (suc n) headed ms h low e k =
           hand-fence (front ++ XF) (cursor (length front) headed 0) (length front) headed 1 (wordsFrom G log headed (suc n) ++ (wait ∷ ms)) h
-          (fence-act headed 0 ∙ rw (is-due headed n e) refl) (words-hand (suc n) headed ms h e k)
+          (fence-act headed 0 low (omega arith) ∙ rw (is-due headed n e) refl) (words-hand (suc n) headed ms h low e k)
 
-    fence-hands : (headed : ℕ) (waiting ms : List Motion) (h : ℕ) → waiting ≡ wordsDue l G log headed next
+    fence-hands : (headed : ℕ) (waiting ms : List Motion) (h : ℕ) → headed ≤ next → waiting ≡ wordsDue l G log headed next
         → Hands l G D next ((front ++ recordBytes FN) ++ B) log (cursor (length (front ++ recordBytes FN)) (headedAt l headed next) 0) ms h
         → Hands l G D next (front ++ XF) log (cursor (length front) headed 0) (headsOut waiting ++ (wait ∷ ms)) h
     unfolding wordsDue headedAt headsOut isWords due
-    fence-hands headed waiting ms h e k = go l refl e (on-fence (headedAt l headed next) ms h k)
+    fence-hands headed waiting ms h low e k = go l refl e (on-fence (headedAt l headed next) ms h k)
       where
         go : (n : Grain) → l ≡ n → waiting ≡ wordsDue n G log headed next
             → Hands l G D next (front ++ XF) log (cursor (length front + 2) (headedAt n headed next) 0) ms h
             → Hands l G D next (front ++ XF) log (cursor (length front) headed 0) (headsOut waiting ++ (wait ∷ ms)) h
-        go words q e k = rw e (due-hands (rw q refl) (next - headed) headed ms h refl k)
-        go blocks q e k = rw e (last-hands headed 0 ms h (rw q refl) k)
+        go words q e k = rw e (due-hands (rw q refl) (next - headed) headed ms h low refl k)
+        go blocks q e k = rw e (last-hands headed 0 ms h low (omega arith) (rw q refl) k)
 
   -- ---- every record
 
-  moves : (rs : List Record) (front : List ℕ) (headed : ℕ) (waiting : List Motion) → Fitting G D rs → Due l G log next headed waiting rs
+  headed-low : (headed : ℕ) → headed ≤ next → headedAt l headed next ≤ next
+  headed-low headed low = go l
+    where
+      go : (k : Grain) → headedAt k headed next ≤ next
+      go words = unfold headedAt in (omega arith)
+      go blocks = unfold headedAt in low
+
+  moves : (rs : List Record) (front : List ℕ) (headed : ℕ) (waiting : List Motion) → headed ≤ next → Fitting G D rs → Due l G log next headed waiting rs
       → Hands l G D next (front ++ batchBytes rs) log (cursor (length front) headed 0) (motions l waiting rs) (headedAfter l headed next rs)
   unfolding batchBytes motions headedAfter
-  moves [] front headed waiting f due =
-      (rw (append-nil front) (act-done front headed), refl)
-  moves (GW slot group ∷ rs) front headed waiting f due =
-      group-hands front (batchBytes rs) slot group (f .0) headed (motions l (waiting ++ head l slot group) rs) (headedAfter l headed next rs)
-      (moves rs (front ++ recordBytes (GW slot group)) headed (waiting ++ head l slot group) (f .1) due)
-  moves (HW home block ∷ rs) front headed waiting f due =
-      home-hands front (batchBytes rs) home block (f .0) headed (motions l waiting rs) (headedAfter l headed next rs)
-      (moves rs (front ++ recordBytes (HW home block)) headed waiting (f .1) due)
-  moves (KW header ∷ rs) front headed waiting f due =
-      header-hands front (batchBytes rs) header (f .0) headed (motions l waiting rs) (headedAfter l headed next rs)
-      (moves rs (front ++ recordBytes (KW header)) headed waiting (f .1) due)
-  moves (FN ∷ rs) front headed waiting f due-now =
-      fence-hands front (batchBytes rs) headed waiting (motions l [] rs) (headedAfter l (headedAt l headed next) next rs) (due-now .0)
-      (moves rs (front ++ recordBytes FN) (headedAt l headed next) [] f (due-now .1))
+  moves [] front headed waiting low f due =
+      (rw (append-nil front) (act-done front headed low), refl)
+  moves (GW slot group ∷ rs) front headed waiting low f due =
+      group-hands front (batchBytes rs) slot group (f .0) headed low (motions l (waiting ++ head l slot group) rs) (headedAfter l headed next rs)
+      (moves rs (front ++ recordBytes (GW slot group)) headed (waiting ++ head l slot group) low (f .1) due)
+  moves (HW home block ∷ rs) front headed waiting low f due =
+      home-hands front (batchBytes rs) home block (f .0) headed low (motions l waiting rs) (headedAfter l headed next rs)
+      (moves rs (front ++ recordBytes (HW home block)) headed waiting low (f .1) due)
+  moves (KW header ∷ rs) front headed waiting low f due =
+      header-hands front (batchBytes rs) header (f .0) headed low (motions l waiting rs) (headedAfter l headed next rs)
+      (moves rs (front ++ recordBytes (KW header)) headed waiting low (f .1) due)
+  moves (FN ∷ rs) front headed waiting low f due-now =
+      fence-hands front (batchBytes rs) headed waiting (motions l [] rs) (headedAfter l (headedAt l headed next) next rs) low (due-now .0)
+      (moves rs (front ++ recordBytes FN) (headedAt l headed next) [] (headed-low headed low) f (due-now .1))
 
 pub runner-moves : RunnerMoves
-runner-moves l G D next headed log waiting rs g₁ g₂ d f due = moves l G D next log g₁ g₂ d rs [] headed waiting f due
+runner-moves l G D next headed log waiting rs g₁ g₂ d low f due = moves l G D next log g₁ g₂ d rs [] headed waiting low f due

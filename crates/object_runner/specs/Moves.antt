@@ -91,7 +91,7 @@ Fitting groups homes (FN ∷ rs) = Fitting groups homes rs
 abbrev pub RunnerMoves : Type 0
 RunnerMoves =
     (l : Grain) (groups homes next headed : ℕ) (log : List ℕ) (waiting : List Motion) (rs : List Record) → 1 ≤ groups → groups ≤ 1024 → homes ≤ 65535 →
-    Fitting groups homes rs → Due l groups log next headed waiting rs →
+    headed ≤ next → Fitting groups homes rs → Due l groups log next headed waiting rs →
     Hands l groups homes next (batchBytes rs) log (cursor 0 headed 0) (motions l waiting rs) (headedAfter l headed next rs)
 
 -- on blocks no word waits

@@ -102,10 +102,16 @@ recordAction words groups homes next rest c =
     (cond (same (part rest 0 2) headerWriteMark) (headerAction words rest c)
     (cond (same (part rest 0 2) fenceMark) (fenceAction words groups next c) (bare refused c))))
 
+-- what may be asked: a medium, the groups of a store, and a cursor that lies in the batch, has no first word beyond the next group and is at a step that
+-- there is
+unfoldable pub asked : ℕ → ℕ → ℕ → ℕ → Cursor → Bool
+asked landing groups next size c =
+    leb landing 1 && leb 1 groups && leb groups 1024 && leb (c .at) size && leb (c .headed) next && leb (c .stage) 2
+
 -- [S-85]
 unfoldable pub nextAction : ℕ → ℕ → ℕ → ℕ → List ℕ → Cursor → Action
 nextAction landing groups homes next batch c =
-    cond (leb landing 1 && leb 1 groups && leb groups 1024 && leb (c .at) (length batch))
+    cond (asked landing groups next (length batch) c)
     (cond (eqb (c .at) (length batch)) (bare done c)
     (cond (leb (c .at + 2) (length batch)) (recordAction (eqb landing 0) groups homes next (drop (c .at) batch) c) (bare refused c)))
     (bare refused c)

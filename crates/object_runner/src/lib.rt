@@ -10,7 +10,7 @@ ghost use mathlib.Core.Path.{_≡_};
 ghost use Prim.Native.Nat.{_+_, _≤_};
 ghost use lib.ListN.{length, drop};
 ghost use Rattle.model.specs.Bytes.{part, same};
-ghost use Rattle.object_runner.specs.Next.{cursor, recordAction, nextAction};
+ghost use Rattle.object_runner.specs.Next.{cursor, recordAction, asked, nextAction};
 
 // How far a batch has been handed out: its records before index `at`; the first words of all groups below `headed`; and, of the record at `at`,
 // how many of its steps (`stage`), where it takes more than one.
@@ -70,8 +70,30 @@ fn record_action(batch: &[u8], words: bool, groups: u64, homes: u64, next: u64, 
     bare(3, c)
 }
 
+// Whether all that is told can be meant: a medium, the groups of a store, and a cursor in a batch of `size` bytes.
+fn asked(landing: u64, groups: u64, next: u64, size: u64, c: Cursor) -> bool
+    ensures { λ r. ⌜ r ≡ asked landing groups next size c ⌝ }
+{
+    if landing > 1 {
+        return false;
+    }
+    if groups < 1 {
+        return false;
+    }
+    if groups > 1024 {
+        return false;
+    }
+    if c.at > size {
+        return false;
+    }
+    if c.headed > next {
+        return false;
+    }
+    c.stage <= 2
+}
+
 // The next action of a batch. `landing` is what the medium keeps whole (0 words of 8 bytes, 1 blocks of 64), `next` the number of the next group that
-// has not been submitted. Whatever is asked: a batch that is none, or a cursor beyond it, is refused. [S-85]
+// has not been submitted. Whatever is asked: a batch that is none, or a cursor that no batch has, is refused. [S-85]
 #[no_mangle]
 pub extern "C" fn kagutin_next_action(
     batch: &[u8],
@@ -86,17 +108,8 @@ pub extern "C" fn kagutin_next_action(
     ensures { λ r. ⌜ r ≡ nextAction landing groups homes next (now (batch .entry)) (cursor at headed stage) ⌝ }
 {
     let c = Cursor { at, headed, stage };
-    if landing > 1 {
-        return bare(3, c);
-    }
-    if groups < 1 {
-        return bare(3, c);
-    }
-    if groups > 1024 {
-        return bare(3, c);
-    }
     let size = batch.len() as u64;
-    if at > size {
+    if !asked(landing, groups, next, size, c) {
         return bare(3, c);
     }
     if at == size {
