@@ -15,7 +15,7 @@ use Rattle.object.specs.Medium.{Grain, words, blocks, Medium}
 use Rattle.object.specs.Order.{Motion, put, wait, moves, moved}
 use Rattle.object_runner.specs.declared.Cursor.{Cursor}
 use Rattle.object_runner.specs.declared.Action.{Action}
-use Rattle.object_runner.specs.Next.{cursor, past, logArea, homesArea, fromBatch, fromCopy, fencing, done, bare, write, refused, parts, groupAction, homeAction, wiping, wholeHeader, wipeAction, headerAction, due, dueAction, fenceAction, recordAction, nextAction}
+use Rattle.object_runner.specs.Next.{cursor, past, logArea, homesArea, fromBatch, fromCopy, fencing, done, bare, write, refused, parts, groupAction, homeAction, wiping, wholeHeader, wipeAction, headerAction, due, dueAction, fenceAction, recordAction, asked, nextAction}
 use Rattle.object_runner.specs.Moves.{landingOf, Does, Hands}
 
 -- motions one behind the other
@@ -115,7 +115,7 @@ module _ (landing groups homes next : ℕ) (batch : List ℕ) (c : Cursor) where
   -- done, at the batch's end alone
   pub done-at : nextAction landing groups homes next batch c .kind ≡ 0 → c .at ≡ length batch
   unfolding nextAction
-  done-at = go (leb landing 1 && leb 1 groups && leb groups 1024 && leb (c .at) (length batch)) (eqb (c .at) (length batch)) refl (leb (c .at + 2) (length batch))
+  done-at = go (asked landing groups next (length batch) c) (eqb (c .at) (length batch)) refl (leb (c .at + 2) (length batch))
     where
       go : (a b : Bool) → eqb (c .at) (length batch) ≡ b → (d : Bool)
           → cond a (cond b (bare done c) (cond d (recordAction (eqb landing 0) groups homes next (drop (c .at) batch) c) (bare refused c))) (bare refused c) .kind ≡ 0
@@ -128,7 +128,7 @@ module _ (landing groups homes next : ℕ) (batch : List ℕ) (c : Cursor) where
   -- a write or a fence, before it
   pub some-at : (nextAction landing groups homes next batch c .kind ≡ 1) ⊎ (nextAction landing groups homes next batch c .kind ≡ 2) → c .at < length batch
   unfolding nextAction
-  some-at = go (leb landing 1 && leb 1 groups && leb groups 1024 && leb (c .at) (length batch)) (eqb (c .at) (length batch)) (leb (c .at + 2) (length batch)) refl
+  some-at = go (asked landing groups next (length batch) c) (eqb (c .at) (length batch)) (leb (c .at + 2) (length batch)) refl
     where
       bare-no : (k : ℕ) → (bare k c .kind ≡ 1) ⊎ (bare k c .kind ≡ 2) → (k ≡ 1) ⊎ (k ≡ 2)
       bare-no k h = (unfold bare in h)
@@ -155,13 +155,13 @@ module _ (l : Grain) (G D next : ℕ) (g₁ : 1 ≤ G) (g₂ : G ≤ 1024) where
       go blocks = unfold landingOf in le-leb 1 1 (omega arith)
 
   -- at its end nothing is left to hand out, whatever the next group is
-  pub end-hands : (batch log : List ℕ) (c : Cursor) → c .at ≡ length batch → Hands l G D next batch log c [] (c .headed)
-  unfolding nextAction
-  end-hands batch log c e = (at-end, refl)
+  pub end-hands : (batch log : List ℕ) (c : Cursor) → c .at ≡ length batch → c .headed ≤ next → c .stage ≤ 2 → Hands l G D next batch log c [] (c .headed)
+  unfolding nextAction asked
+  end-hands batch log c e h t = (at-end, refl)
     where
       at-end : nextAction (landingOf l) G D next batch c ≡ bare done c
       at-end =
-          rw (landing-low, le-leb 1 G g₁, le-leb G 1024 g₂, le-leb (c .at) (length batch) (omega (arith, e)), eq-eqb (c .at) (length batch) e)
+          rw (landing-low, le-leb 1 G g₁, le-leb G 1024 g₂, le-leb (c .at) (length batch) (omega (arith, e)), le-leb (c .headed) next h, le-leb (c .stage) 2 t, eq-eqb (c .at) (length batch) e)
 
   pub hands-end : (batch log : List ℕ) (c : Cursor) (H : ℕ) → Hands l G D next batch log c [] H → c .at ≡ length batch
   hands-end batch log c H h = done-at (landingOf l) G D next batch c (ap (λ (a : Action). a .kind) (h .0) ∙ (unfold bare in refl))

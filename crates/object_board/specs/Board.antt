@@ -10,6 +10,8 @@ use mathlib.Core.Option.{Option, none, some}
 use lib.Dec.{eqb, leb, ltb}
 use lib.ListN.{length, take, drop}
 use Rattle.model.specs.Bytes.{part}
+use Rattle.model.specs.Layout.{homesIn}
+use Rattle.model.specs.State.{stateOf}
 use Rattle.model.specs.Effects.{Given}
 use Rattle.model.specs.Calls.{Outcome, beginCall, abortCall, readCall}
 use Rattle.model.specs.Crash.{Piece, toLog, toArea}
@@ -23,11 +25,10 @@ use Rattle.object_runner.specs.Next.{logArea, fromBatch}
 use Rattle.object_runner.specs.Moves.{landingOf}
 use Rattle.object_machine.specs.declared.Control.{Control}
 use Rattle.object_machine.specs.declared.Turn.{Turn}
-use Rattle.object_machine.specs.declared.Moved.{Moved}
 use Rattle.object_machine.specs.Control.{failed, fresh, withAsk}
 use Rattle.object_machine.specs.Calls.{mostHomes}
-use Rattle.object_machine.specs.Moves.{done, pass}
-use Rattle.object_machine.specs.Next.{Lent, lentTo, makes, given, callFor, follows, handsOut, fails, shut, refusal, askAnswer, conditionFor}
+use Rattle.object_machine.specs.Moves.{done, pass, chosen as callAt}
+use Rattle.object_machine.specs.Next.{Lent, lentTo, Gone, goes as goesBy, makes, given, shut, refusal, askAnswer, conditionFor}
 
 pub record Board : Type 0 where
   pub homes : ℕ
@@ -57,7 +58,7 @@ pub data Happening : Type 0 where
 
 -- the batch in hand, and what a turn writes
 unfoldable pub inHand : Board → List ℕ
-inHand b = take (b .control .size) (b .memory .batch)
+inHand b = part (b .memory .batch) 0 (b .control .size)
 
 unfoldable pub pieceOf : Board → Turn → Piece
 pieceOf b t =
@@ -88,8 +89,8 @@ attempted b = cond (eqb (b .turn .kind) 1) (writes (b .medium) (pieceOf b (b .tu
 unfoldable pub copied : Board → Medium → Lent
 copied b m =
     let l : Lent = b .memory in
-    cond (loadsLog (b .turn)) (lentTo (l .control) (m .lasting .log) (l .area) (l .state) (l .newest) (l .block) (l .batch))
-    (cond (loadsArea (b .turn)) (lentTo (l .control) (l .log) (m .lasting .area) (l .state) (l .newest) (l .block) (l .batch)) l)
+    cond (loadsLog (b .turn)) (lentTo (m .lasting .log) (l .area) (l .state) (l .newest) (l .block) (l .batch))
+    (cond (loadsArea (b .turn)) (lentTo (l .log) (m .lasting .area) (l .state) (l .newest) (l .block) (l .batch)) l)
 
 -- The book
 
@@ -137,7 +138,7 @@ taken b c block =
     record {
       homes = b .homes;
       control = c;
-      memory = lentTo (l .control) (l .log) (l .area) (l .state) (l .newest) block (l .batch);
+      memory = lentTo (l .log) (l .area) (l .state) (l .newest) block (l .batch);
       turn = pass;
       told = pass;
       shown = b .shown;
@@ -170,7 +171,7 @@ atOnce b o c =
     record {
       homes = b .homes;
       control = b .control;
-      memory = lentTo (l .control) (l .log) (l .area) (o .state) (l .newest) (l .block) (l .batch);
+      memory = lentTo (l .log) (l .area) (o .state) (l .newest) (l .block) (l .batch);
       turn = b .turn;
       told = done (o .code) (o .figure);
       shown = o .block;
@@ -194,34 +195,46 @@ readsIn b writer home block = let l : Lent = b .memory in readCall (lentAll (l .
 unfoldable pub handing : Board → Bool
 handing b = ltb (b .control .at) (b .control .size)
 
+unfoldable pub callFor : Board → ℕ
+callFor b = callAt (b .control) (stateOf (b .memory .state)) (homesIn (length (b .memory .area)))
+
 unfoldable pub made : Board → Outcome
-made b = makes (callFor (b .memory) (b .control)) (given (b .memory) (b .control)) (b .control .number)
+made b = makes (callFor b) (given (b .memory) (b .control)) (b .control .number)
 
-unfoldable pub madeCall : Board → Option Call
-madeCall b = callOf (callFor (b .memory) (b .control)) (given (b .memory) (b .control)) (b .control .number)
+unfoldable pub madeCall : Board → ℕ → Option Call
+madeCall b result =
+    cond (eqb result 0 && not (handing b)) (callOf (callFor b) (given (b .memory) (b .control)) (b .control .number)) none
 
-unfoldable pub moves : Board → Moved → Lent → Book → Board
-moves b m l k =
+unfoldable pub left : Board → Gone → Board
+left b r =
     record {
       homes = b .homes;
-      control = m .control;
-      memory = l;
-      turn = m .turn;
-      told = m .turn;
+      control = r .moved .control;
+      memory = lentTo (r .log) (r .area) (r .state) (r .newest) (b .memory .block) (r .batch);
+      turn = r .moved .turn;
+      told = r .moved .turn;
+      shown = b .shown;
+      medium = b .medium;
+      book = b .book;
+    }
+
+unfoldable pub withBook : Board → Book → Board
+withBook b k =
+    record {
+      homes = b .homes;
+      control = b .control;
+      memory = b .memory;
+      turn = b .turn;
+      told = b .told;
       shown = b .shown;
       medium = b .medium;
       book = k;
     }
 
-unfoldable pub leftIn : Lent → Outcome → Lent
-leftIn l o = lentTo (l .control) (o .log) (o .area) (o .state) (o .newest) (l .block) (o .batch)
-
-unfoldable pub calling : Board → Board
-calling b =
-    moves b (follows (b .memory) (b .control) (made b)) (leftIn (b .memory) (made b)) (fedBy (b .book) (madeCall b) (made b .code) (made b .figure))
-
-unfoldable pub next : Board → Board
-next b = cond (handing b) (moves b (handsOut (b .memory) (b .control)) (b .memory) (b .book)) (calling b)
+-- next, asked with the driver's result
+unfoldable pub next : Board → ℕ → Board
+next b result =
+    left (withBook b (fedBy (b .book) (madeCall b result) (made b .code) (made b .figure))) (goesBy (b .memory) (b .control) result)
 
 unfoldable pub withMedium : Board → Medium → Lent → Book → Board
 withMedium b m l k =
@@ -239,7 +252,7 @@ withMedium b m l k =
 unfoldable pub goesOn : Grain → Board → (ℕ → Bool) → ℕ → Board
 goesOn l b chosen n =
     let m : Medium = carried l b chosen in
-    next (withMedium b m (copied b m) (keeps (loadsLog (b .turn)) n (b .book)))
+    next (withMedium b m (copied b m) (keeps (loadsLog (b .turn)) n (b .book))) 0
 
 unfoldable pub happens : Grain → Board → Happening → ℕ → Board
 happens l b (asks stage writer home number block) n = askFor b stage writer home number block
@@ -247,7 +260,7 @@ happens l b (begins writer) n = once b (beginsIn b writer) (begin writer)
 happens l b (aborts writer) n = once b (abortsIn b writer) (abort writer)
 happens l b (reads writer home block) n = once b (readsIn b writer home block) (read writer home block)
 happens l b (goes chosen) n = goesOn l b chosen n
-happens l b (breaks error) n = moves (withMedium b (attempted b) (b .memory) (b .book)) (fails (b .control) (suc error)) (b .memory) (b .book)
+happens l b (breaks error) n = next (withMedium b (attempted b) (b .memory) (b .book)) (suc error)
 happens l b (cuts chosen memory) n =
     record {
       homes = b .homes;

@@ -39,13 +39,17 @@ unfoldable pub putNumbers : List ℕ → ℕ → List ℕ → List ℕ
 putNumbers s at [] = s
 putNumbers s at (v ∷ vs) = putNumbers (putNumber 8 s at v) (at + 8) vs
 
-unfoldable pub fields : Control → List ℕ
-fields c =
-    c .condition ∷ c .error ∷ c .stage ∷ c .op ∷ c .writer ∷ c .home ∷ c .number ∷ c .tried ∷ c .from ∷ c .figure ∷ c .size ∷ c .at ∷ c .headed
-    ∷ c .step ∷ c .landing ∷ c .room ∷ c .lists ∷ []
+unfoldable pub firstFields : Control → List ℕ
+firstFields c = c .condition ∷ c .error ∷ c .stage ∷ c .op ∷ c .writer ∷ c .home ∷ []
+
+unfoldable pub middleFields : Control → List ℕ
+middleFields c = c .number ∷ c .tried ∷ c .from ∷ c .figure ∷ c .size ∷ c .at ∷ []
+
+unfoldable pub lastFields : Control → List ℕ
+lastFields c = c .headed ∷ c .step ∷ c .landing ∷ c .room ∷ c .lists ∷ []
 
 unfoldable pub putControl : List ℕ → Control → List ℕ
-putControl s c = putNumbers s 0 (fields c)
+putControl s c = putNumbers (putNumbers (putNumbers s 0 (firstFields c)) 48 (middleFields c)) 96 (lastFields c)
 
 -- conditions: 1 closed, 2 ready, 3 failed. A block of zeros has none.
 abbrev pub closed : ℕ

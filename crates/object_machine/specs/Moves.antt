@@ -85,7 +85,8 @@ atStage stage st = cond (underWay st) (getD callInRound stage 0) (getD callAt st
 
 unfoldable pub chosen : Control → State → ℕ → ℕ
 chosen c st homes =
-    cond (eqb (c .stage) 3 && guarded c homes) 12 (cond (eqb (c .stage) 16 && settled st) 0 (atStage (c .stage) st))
+    cond (leb (c .stage) 18)
+    (cond (eqb (c .stage) 3 && guarded c homes) 12 (cond (eqb (c .stage) 16 && settled st) 0 (atStage (c .stage) st))) 0
 
 -- What follows.
 
@@ -97,8 +98,8 @@ unfoldable pub goesOn : Control → ℕ → ℕ → ℕ → Moved
 goesOn c to figure size = cond (eqb to 22 && eqb size 0) (answers c 0 figure) (passes (withBatch c to figure size))
 
 -- the answer with which an operation's own call says that room is missing
-unfoldable pub fullAt : List ℕ
-fullAt = 0 ∷ 0 ∷ 17 ∷ 8 ∷ 8 ∷ 18 ∷ []
+unfoldable pub full : ℕ → ℕ
+full stage = cond (eqb stage 2) 17 (cond (eqb stage 5) 18 (cond (eqb stage 3 || eqb stage 4) 8 0))
 
 -- the holder's transaction begins in the log's first group, so that no trim can free it
 unfoldable pub heldBack : State → Holder → Bool
@@ -116,19 +117,21 @@ tellsHolder code h = cond (eqb code 8 || eqb code 17) (h .writer) 0
 
 unfoldable pub refuses : Control → ℕ → ℕ → State → Holder → Moved
 refuses c code groups st h =
-    cond (eqb code (getD fullAt (c .stage) 0) && mayMakeRoom c groups st h) (passes (withRoom c 7 (st .start)))
+    cond (eqb code (full (c .stage)) && mayMakeRoom c groups st h) (passes (withRoom c 7 (st .start)))
     (cond (eqb (c .stage) 7 && eqb code 18) (passes (withStage c 8)) (answers c code (tellsHolder code h)))
+
+-- the groups of an opening's log have no first words to wait for
+unfoldable pub headedAt : Control → State → ℕ
+headedAt c st = cond (eqb (c .stage) 1) (st .next) (c .headed)
 
 -- a stage with a call
 unfoldable pub called : Control → ℕ → ℕ → ℕ → ℕ → State → Holder → Moved
 called c code figure size groups st h =
-    cond (eqb code 0)
-    (goesOn (withCursor c (c .at) (cond (eqb (c .stage) 1) (st .next) (c .headed)) (c .step)) (getD after (c .stage) 0) figure size)
-    (refuses c code groups st h)
+    cond (eqb code 0) (goesOn (withCursor c (c .at) (headedAt c st) (c .step)) (getD after (c .stage) 0) figure size) (refuses c code groups st h)
 
 -- room was made for nothing
 unfoldable pub givesUp : Control → Holder → Moved
-givesUp c h = answers c (getD fullAt (c .op) 0) (tellsHolder (getD fullAt (c .op) 0) h)
+givesUp c h = answers c (full (c .op)) (tellsHolder (full (c .op)) h)
 
 unfoldable pub looks : Control → State → Holder → Moved
 looks c st h =

@@ -1,12 +1,14 @@
 -- The machine's calls: an operation is asked for, and `next` with the driver's last result gives the next turn. A turn makes one call of the store, or
 -- hands out one record of its batch.
 use Prim.Native.Nat.{ℕ, _-_, _^_}
-use mathlib.Core.Bool.{Bool, cond, not, _&&_, _||_}
+use mathlib.Core.Bool.{Bool, cond, _&&_, _||_}
 use mathlib.Core.List.{List, []}
 use lib.Dec.{eqb, leb, ltb}
-use lib.ListN.{length, take}
+use lib.ListN.{length}
+use Rattle.model.specs.Bytes.{part}
 use Rattle.model.specs.Layout.{logLengthRight, dataLengthRight, groupsIn, homesIn}
 use Rattle.model.specs.State.{stateOf}
+use Rattle.model.specs.declared.State.{State}
 use Rattle.model.specs.declared.Holder.{Holder}
 use Rattle.model.specs.Effects.{Given}
 use Rattle.model.specs.Calls.{Outcome, beginCall, abortCall, readCall}
@@ -18,9 +20,8 @@ use Rattle.object_machine.specs.Control.{Control, Turn, Moved, closed, r
 use Rattle.object_machine.specs.Calls.{writersCall, roomCall}
 use Rattle.object_machine.specs.Moves.{done, pass, moved, chosen, called, uncalled}
 
--- what next is lent, and what it gives and leaves
+-- what next is lent beside the control block
 pub record Lent : Type 0 where
-  pub control : List ℕ
   pub log : List ℕ
   pub area : List ℕ
   pub state : List ℕ
@@ -28,30 +29,25 @@ pub record Lent : Type 0 where
   pub block : List ℕ
   pub batch : List ℕ
 
-pub record Left : Type 0 where
-  pub turn : Turn
-  pub control : List ℕ
+abbrev pub lentTo : List ℕ → List ℕ → List ℕ → List ℕ → List ℕ → List ℕ → Lent
+lentTo log area state newest block batch =
+    record { log = log; area = area; state = state; newest = newest; block = block; batch = batch }
+
+-- what a turn leaves of it
+pub record Gone : Type 0 where
+  pub moved : Moved
   pub log : List ℕ
   pub area : List ℕ
   pub state : List ℕ
   pub newest : List ℕ
   pub batch : List ℕ
 
-abbrev pub lentTo : List ℕ → List ℕ → List ℕ → List ℕ → List ℕ → List ℕ → List ℕ → Lent
-lentTo control log area state newest block batch =
-    record { control = control; log = log; area = area; state = state; newest = newest; block = block; batch = batch }
-
-abbrev pub leaves : Turn → List ℕ → List ℕ → List ℕ → List ℕ → List ℕ → List ℕ → Left
-leaves turn control log area state newest batch =
-    record { turn = turn; control = control; log = log; area = area; state = state; newest = newest; batch = batch }
+abbrev pub gone : Moved → List ℕ → List ℕ → List ℕ → List ℕ → List ℕ → Gone
+gone m log area state newest batch = record { moved = m; log = log; area = area; state = state; newest = newest; batch = batch }
 
 -- all as it was
-unfoldable pub untouched : Lent → Turn → Left
-untouched l t = leaves t (l .control) (l .log) (l .area) (l .state) (l .newest) (l .batch)
-
--- the control block alone has changed
-unfoldable pub controls : Lent → Moved → Left
-controls l m = leaves (m .turn) (putControl (l .control) (m .control)) (l .log) (l .area) (l .state) (l .newest) (l .batch)
+unfoldable pub stays : Lent → Moved → Gone
+stays l m = gone m (l .log) (l .area) (l .state) (l .newest) (l .batch)
 
 -- The driver has failed: no more is asked of it, and every operation but an opening answers 65.
 unfoldable pub fails : Control → ℕ → Moved
@@ -69,11 +65,14 @@ handed c a =
     (record { kind = a .kind; area = a .area; offset = a .offset; size = a .size; source = a .source; from = a .from; code = 0; figure = 0 }))
     (fails c badBatch)
 
+-- the batch in hand, as long as it was
 unfoldable pub handsOut : Lent → Control → Moved
 handsOut l c =
-    handed c
-    (nextAction (c .landing) (groupsIn (length (l .log))) (homesIn (length (l .area))) (stateOf (l .state) .next) (take (c .size) (l .batch))
-    (cursor (c .at) (c .headed) (c .step)))
+    cond (leb (c .size) (length (l .batch)))
+    (handed c
+    (nextAction (c .landing) (groupsIn (length (l .log))) (homesIn (length (l .area))) (stateOf (l .state) .next) (part (l .batch) 0 (c .size))
+    (cursor (c .at) (c .headed) (c .step))))
+    (fails c badBatch)
 
 -- the holder, where it is asked for
 unfoldable pub holderFor : ℕ → ℕ → List ℕ → Holder
@@ -86,44 +85,62 @@ given l c = lentAll (l .log) (l .area) (l .state) (l .newest) (l .block) (l .bat
 unfoldable pub makes : ℕ → Given → ℕ → Outcome
 makes k g n = cond (leb 1 k && leb k 6 || eqb k 12) (writersCall k g n) (roomCall k g n)
 
-unfoldable pub follows : Lent → Control → Outcome → Moved
-follows l c o =
-    cond (leb (c .stage) 18)
-    (called c (o .code) (o .figure) (o .size) (groupsIn (length (l .log))) (stateOf (o .state)) (holderFor (c .stage) (o .code) (o .state)))
-    (uncalled c (length (l .log)) (length (l .area)) (stateOf (o .state)) (holderFor (c .stage) (o .code) (o .state)))
+unfoldable pub follows : Control → ℕ → ℕ → ℕ → ℕ → ℕ → ℕ → State → Holder → Moved
+follows c code figure size groups logSize areaSize st h =
+    cond (leb (c .stage) 18) (called c code figure size groups st h) (uncalled c logSize areaSize st h)
 
-unfoldable pub leftBy : Lent → Moved → Outcome → Left
-leftBy l m o = leaves (m .turn) (putControl (l .control) (m .control)) (o .log) (o .area) (o .state) (o .newest) (o .batch)
+unfoldable pub leftBy : Lent → Control → Outcome → Gone
+leftBy l c o =
+    gone
+    (follows c (o .code) (o .figure) (o .size) (groupsIn (length (l .log))) (length (l .log)) (length (l .area)) (stateOf (o .state))
+    (holderFor (c .stage) (o .code) (o .state)))
+    (o .log)
+    (o .area)
+    (o .state)
+    (o .newest)
+    (o .batch)
 
-unfoldable pub callFor : Lent → Control → ℕ
-callFor l c = chosen c (stateOf (l .state)) (homesIn (length (l .area)))
+-- the batch has been carried out: one call of the store, or none
+unfoldable pub onward : Lent → Control → Gone
+onward l c = leftBy l c (makes (chosen c (stateOf (l .state)) (homesIn (length (l .area)))) (given l c) (c .number))
 
--- the batch has been carried out
-unfoldable pub onward : Lent → Control → Left
-onward l c = let o : Outcome = makes (callFor l c) (given l c) (c .number) in leftBy l (follows l c o) o
-
--- lengths that are right: 1 is answered otherwise, and all is as it was
-unfoldable pub lengthsRight : Lent → Bool
-lengthsRight l = logLengthRight (length (l .log)) && (dataLengthRight (length (l .area)) && eqb (length (l .state)) 1024)
-
-unfoldable pub goes : Lent → Control → ℕ → Left
+unfoldable pub goes : Lent → Control → ℕ → Gone
 goes l c result =
-    cond (eqb result 0)
-    (cond (ltb (c .at) (c .size))
-    (cond (leb (c .size) (length (l .batch))) (controls l (handsOut l c)) (untouched l (done 1 0)))
-    (onward l c))
-    (controls l (fails c result))
+    cond (eqb result 0) (cond (ltb (c .at) (c .size)) (stays l (handsOut l c)) (onward l c)) (stays l (fails c result))
+
+-- what next gives and leaves
+pub record Left : Type 0 where
+  pub turn : Turn
+  pub control : List ℕ
+  pub log : List ℕ
+  pub area : List ℕ
+  pub state : List ℕ
+  pub newest : List ℕ
+  pub batch : List ℕ
+
+abbrev pub leaves : Turn → List ℕ → List ℕ → List ℕ → List ℕ → List ℕ → List ℕ → Left
+leaves turn control log area state newest batch =
+    record { turn = turn; control = control; log = log; area = area; state = state; newest = newest; batch = batch }
+
+unfoldable pub refused : List ℕ → Lent → ℕ → Left
+refused s l code = leaves (done code 0) s (l .log) (l .area) (l .state) (l .newest) (l .batch)
+
+unfoldable pub keeps : List ℕ → Gone → Left
+keeps s g = leaves (g .moved .turn) (putControl s (g .moved .control)) (g .log) (g .area) (g .state) (g .newest) (g .batch)
 
 -- an operation is under way in a control block that a call has made
 unfoldable pub underWay : Control → Bool
 underWay c = known c && leb 1 (c .stage)
 
--- The next turn. `result` is what the driver's function returned for the last one, 0 if it was done or if there was nothing for the driver.
-unfoldable pub nextCall : Lent → ℕ → Left
-nextCall l result =
-    cond (eqb (length (l .control)) 256 && underWay (controlOf (l .control)))
-    (cond (lengthsRight l) (goes l (controlOf (l .control)) result) (untouched l (done 1 0)))
-    (untouched l (done 67 0))
+unfoldable pub lengthsRight : Lent → Bool
+lengthsRight l = logLengthRight (length (l .log)) && (dataLengthRight (length (l .area)) && eqb (length (l .state)) 1024)
+
+-- The next turn. `result` is what the driver's function returned for the last one, 0 if it was done or if there was nothing for the driver. 67: nothing is under
+-- way; 1: a length is wrong, and all is as it was.
+unfoldable pub nextCall : List ℕ → Lent → ℕ → Left
+nextCall s l result =
+    cond (eqb (length s) 256)
+    (cond (underWay (controlOf s)) (cond (lengthsRight l) (keeps s (goes l (controlOf s) result)) (refused s l 1)) (refused s l 67)) (refused s l 67)
 
 -- Operations asked for.
 
@@ -170,11 +187,13 @@ initCall s landing room lists =
 
 -- Operations that are done at once: they make a call without a batch, leave the control block as it is, and may come while another operation is under way.
 
-unfoldable pub readyAnswer : List ℕ → ℕ
-readyAnswer s = cond (eqb (length s) 256) (cond (known (controlOf s)) (shut (controlOf s)) 67) 67
+-- whether the store is open: 0, or the refusal
+unfoldable pub readyTurn : List ℕ → Turn
+readyTurn s =
+    cond (eqb (length s) 256) (cond (known (controlOf s)) (refusal (controlOf s) (shut (controlOf s))) (done 67 0)) (done 67 0)
 
 unfoldable pub atOnce : List ℕ → Outcome → List ℕ → List ℕ → Asked
-atOnce s o was is = cond (eqb (readyAnswer s) 0) (asked (done (o .code) (o .figure)) is) (asked (refusal (controlOf s) (readyAnswer s)) was)
+atOnce s o was is = cond (eqb (readyTurn s .code) 0) (asked (done (o .code) (o .figure)) is) (asked (readyTurn s) was)
 
 -- begin and abort leave a state, read a block
 unfoldable pub beginTurn : List ℕ → List ℕ → List ℕ → List ℕ → ℕ → Asked
