@@ -2,3 +2,4 @@ pub mod BareLaws
 pub mod HandLaws
 pub mod MadeLaws
 pub mod Ways
+pub mod StepLaws
