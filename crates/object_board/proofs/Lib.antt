@@ -3,3 +3,4 @@ pub mod HandLaws
 pub mod MadeLaws
 pub mod Ways
 pub mod StepLaws
+pub mod Along
