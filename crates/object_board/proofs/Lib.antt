@@ -4,3 +4,4 @@ pub mod MadeLaws
 pub mod Ways
 pub mod StepLaws
 pub mod Along
+pub mod MoveLaws
