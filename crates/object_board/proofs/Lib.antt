@@ -5,3 +5,4 @@ pub mod Ways
 pub mod StepLaws
 pub mod Along
 pub mod MoveLaws
+pub mod Stages
