@@ -10,15 +10,18 @@ use lib.Dec.{eqb, ltb}
 use lib.ListN.{length, take, length-append}
 use borrow.Author.Tests.{eqb-true, ltb-true, ltb-false}
 use Rattle.model.specs.Bytes.{part}
-use Rattle.model.specs.Batch.{Record, GW, HW, KW, FN, batchBytes, readBatch}
+use Rattle.model.specs.Batch.{Record, GW, HW, KW, FN, batchBytes, readBatch, readRecords}
 use Rattle.model.specs.State.{stateOf}
 use Rattle.model.specs.Book.{Book}
-use Rattle.model.specs.Calls.{Outcome}
+use Rattle.model.specs.Calls.{Outcome, sizeOf, done as doneCall}
 use Rattle.model.specs.Crash.{Memory, fences}
 use Rattle.model.specs.History.{Call, call, World, ends, step, isOpening, Allowed}
 use Rattle.abstract_store.specs.Store.{Store, follow}
 use Rattle.model_laws.proofs.trace.CrashLaws.{fences-append}
 use Rattle.theorems.proofs.invariant.Invariant.{Sizes, Running}
+use Rattle.theorems.proofs.steps.RefusalLaws.{step-refused}
+use Rattle.theorems.proofs.steps.Rows.{Row, rowOf, ends-row, row-answer, row-done}
+use Rattle.object_runner.proofs.CallWrites.{Wrote, call-wrote}
 use Rattle.object.specs.Medium.{Grain, words, blocks, Medium}
 use Rattle.object.specs.Order.{Motion, put, wait, motions, moved}
 use Rattle.object.specs.Runner.{Carried}
@@ -34,8 +37,8 @@ use Rattle.object_runner.proofs.DueSteps.{headed-next}
 use Rattle.object_machine.specs.declared.Control.{Control}
 use Rattle.object_machine.specs.Next.{Lent}
 use Rattle.object_board.specs.Board.{Board, inHand, fedBy}
-use Rattle.object_board.proofs.HandLaws.{end-hands, hands-end}
-use Rattle.object_board.proofs.MadeLaws.{SameEnd, Still}
+use Rattle.object_board.proofs.HandLaws.{end-hands, hands-end, hands-few}
+use Rattle.object_board.proofs.MadeLaws.{SameEnd, Still, outcome-room}
 use Rattle.object_board.proofs.StepLaws.{Stepped, stepped, next-grows, front-long, front-is}
 use Rattle.object_board.proofs.Ways.{Way, way-call, way-running}
 
@@ -58,8 +61,8 @@ pub record NewBatch (c c′ : Control) (long : ℕ) : Type 0 where
   pub headed : c′ .headed ≡ c .headed
   pub step : c′ .step ≡ 0
 
-abbrev pub Cursors : Control → Control → ℕ → Type 0
-Cursors c c′ size = (SameCursor c c′ × (size ≡ 0)) ⊎ NewBatch c c′ size
+abbrev pub Cursors : Control → Control → ℕ → ℕ → Type 0
+Cursors c c′ size code = (SameCursor c c′ × (size ≡ 0)) ⊎ (NewBatch c c′ size × (code ≡ 0))
 
 headed-blocks : (headed next : ℕ) (rs : List Record) → headedAfter blocks headed next rs ≡ headed
 unfolding headedAfter headedAt
@@ -108,7 +111,7 @@ module _ (l : Grain) (G D : ℕ) (z : Sizes G D) where
     pub medium : b .medium ≡ moved (first w) out
     pub hands : Hands l G D (stateOf (w .state) .next) (inHand b) (w .log) (cursorOf (b .control)) rest headed
     pub ahead : Ahead w headed
-    pub few : b .control .step ≤ 2
+    pub fits : b .control .size ≤ length (b .memory .batch)
     pub carried : Carried l w (length out)
 
   -- all of the batch is out
@@ -116,6 +119,7 @@ module _ (l : Grain) (G D : ℕ) (z : Sizes G D) where
     pub none : a .rest ≡ []
     pub at : b .control .at ≡ length (inHand b)
     pub headed : b .control .headed ≡ a .headed
+    pub few : b .control .step ≤ 2
     pub all : a .out ≡ motions l [] (a .w .pending)
 
   pub all-out : (b : Board) (a : Along b) → a .rest ≡ [] → Out b a
@@ -126,6 +130,7 @@ module _ (l : Grain) (G D : ℕ) (z : Sizes G D) where
         none = e;
         at = hands-end l G D (stateOf (a .w .state) .next) (omega (arith, z .low)) (z .high) (inHand b) (a .w .log) (cursorOf (b .control)) (a .headed) h;
         headed = h .1;
+        few = hands-few l G D (stateOf (a .w .state) .next) (omega (arith, z .low)) (z .high) (inHand b) (a .w .log) (cursorOf (b .control)) [] (a .headed) h;
         all = sym (a .split ∙ ap (λ (x : List Motion). a .out ++ x) e ∙ append-nil (a .out));
       }
 
@@ -143,10 +148,10 @@ module _ (l : Grain) (G D : ℕ) (z : Sizes G D) where
   module _ (b b′ : Board) (a : Along b) (u : Out b a) (homes : b′ .homes ≡ b .homes) (medium : b′ .medium ≡ b .medium) (landing : b′ .control .landing ≡ b .control .landing) where
     -- none: the world stays
     pub unmade-along : b′ .memory .log ≡ b .memory .log → b′ .memory .area ≡ b .memory .area → b′ .memory .state ≡ b .memory .state
-        → b′ .memory .newest ≡ b .memory .newest → b′ .memory .batch ≡ b .memory .batch → b′ .book ≡ b .book → Cursors (b .control) (b′ .control) 0 → Along b′
+        → b′ .memory .newest ≡ b .memory .newest → b′ .memory .batch ≡ b .memory .batch → b′ .book ≡ b .book → Cursors (b .control) (b′ .control) 0 0 → Along b′
     unmade-along e₁ e₂ e₃ e₄ e₅ e₆ k =
         let c = a .copies in
-        let at : (b′ .control .at ≡ length (inHand b′)) × (b′ .control .headed ≡ b .control .headed) × (b′ .control .step ≤ 2) = go k in
+        let at : (b′ .control .at ≡ length (inHand b′)) × (b′ .control .headed ≡ b .control .headed) × (b′ .control .step ≤ 2) × (b′ .control .size ≤ length (b′ .memory .batch)) = go k in
         record {
           w = a .w;
           s = a .s;
@@ -165,17 +170,19 @@ module _ (l : Grain) (G D : ℕ) (z : Sizes G D) where
               end-hands l G D (stateOf (a .w .state) .next) (omega (arith, z .low)) (z .high) (inHand b′) (a .w .log) (cursorOf (b′ .control)) (at .0)
               (omega (arith, at .1, u .headed, a .ahead .low)) (at .2);
           ahead = record { low = omega (arith, at .1, u .headed, a .ahead .low); words = λ q. at .1 ∙ u .headed ∙ a .ahead .words q };
-          few = at .2;
+          fits = at .3;
           carried = a .carried;
         }
       where
-        go : Cursors (b .control) (b′ .control) 0 → (b′ .control .at ≡ length (inHand b′)) × (b′ .control .headed ≡ b .control .headed) × (b′ .control .step ≤ 2)
+        go : Cursors (b .control) (b′ .control) 0 0
+            → (b′ .control .at ≡ length (inHand b′)) × (b′ .control .headed ≡ b .control .headed) × (b′ .control .step ≤ 2) × (b′ .control .size ≤ length (b′ .memory .batch))
         go (inl k) = (
           k .0 .at ∙ u .at ∙ (unfold inHand in rw (k .0 .size, e₅)),
           k .0 .headed,
-          omega (arith, k .0 .step, a .few),
+          omega (arith, k .0 .step, u .few),
+          omega (arith, k .0 .size, ap length e₅, a .fits),
         )
-        go (inr k) = (k .at ∙ (unfold inHand part in rw (k .size)), k .headed, omega (arith, k .step))
+        go (inr k) = (k .0 .at ∙ (unfold inHand part in rw (k .0 .size)), k .0 .headed, omega (arith, k .0 .step), omega (arith, k .0 .size))
 
     -- one: the world goes on by it
     module _ (c : Call) (n : isOpening c ≡ false) (o : Outcome) (e : SameEnd o (ends (a .w) c) (length (b .memory .batch))) (log : b′ .memory .log ≡ o .log) (area : b′ .memory .area ≡ o .area) (state : b′ .memory .state ≡ o .state) (newest : b′ .memory .newest ≡ o .newest) (batch : b′ .memory .batch ≡ o .batch) (book : b′ .book ≡ fedBy (b .book) (some c) (o .code) (o .figure)) where
@@ -216,9 +223,9 @@ module _ (l : Grain) (G D : ℕ) (z : Sizes G D) where
       carried′ = all-carried w v (recordsOf (ends w c)) (a .out) (a .carried) (u .all) (t .pending) (t .passed)
 
       -- nothing to write
-      quiet : recordsOf (ends w c) ≡ [] → b′ .control .at ≡ length (inHand b′) → b′ .control .headed ≡ b .control .headed → b′ .control .step ≤ 2
+      quiet : recordsOf (ends w c) ≡ [] → b′ .control .at ≡ length (inHand b′) → b′ .control .headed ≡ b .control .headed → b′ .control .step ≤ 2 → b′ .control .size ≤ length (b′ .memory .batch)
           → (l ≡ words → stateOf (v .state) .fenced / 7 ≡ stateOf (w .state) .fenced / 7) → Along b′
-      quiet empty at same few fenced =
+      quiet empty at same few fits fenced =
           record {
             w = v;
             s = follow (a .s) w (call c);
@@ -241,7 +248,7 @@ module _ (l : Grain) (G D : ℕ) (z : Sizes G D) where
                   low = omega (arith, same, u .headed, a .ahead .low, grows);
                   words = λ q. same ∙ u .headed ∙ a .ahead .words q ∙ sym (fenced q);
                 };
-            few = few;
+            fits = fits;
             carried = carried′;
           }
 
@@ -289,7 +296,18 @@ module _ (l : Grain) (G D : ℕ) (z : Sizes G D) where
         at-front : cursorOf (b′ .control) ≡ cursor 0 (b .control .headed) 0
         at-front = rw (k .at, k .headed, k .step)
 
-        pub loud : Along b′
+        size-is : ends w c .size ≡ sizeOf (rowOf w c .effect)
+        size-is = ap (λ (x : Outcome). x .size) (row-done w c done) ∙ (unfold doneCall sizeOf in refl)
+
+        long-is : length (ends w c .batch) ≡ length (rowOf w c .given .batch)
+        long-is = ap (λ (x : Outcome). length (x .batch)) (ends-row w c) ∙ outcome-room (rowOf w c .given) (rowOf w c .answer) (rowOf w c .effect)
+
+        fits : b′ .control .size ≤ length (b′ .memory .batch)
+        fits =
+            let x = call-wrote G D z w (way-running G D z w (a .s) (a .way) (a .ready)) c n (row-answer w c done) .fit in
+            omega (arith, k .size, e .size, size-is, long-is, x, e .within, e .room, ap length batch)
+
+        loud : Along b′
         loud =
             let g = by-grain l refl in
             let rs : List Record = recordsOf (ends w c) in
@@ -310,6 +328,40 @@ module _ (l : Grain) (G D : ℕ) (z : Sizes G D) where
               medium = medium ∙ a .medium ∙ ap (λ (x : Memory). moved (record { lasting = x; written = [] }) (a .out)) (sym (t .memory));
               hands = rw (in-hand, at-front, ← next-v, t .log) h;
               ahead = record { low = g .2; words = g .1 };
-              few = rw (k .step) (omega arith);
+              fits = fits;
               carried = carried′;
             }
+
+      no-records : (p : Outcome) → p .size ≡ 0 → recordsOf p ≡ []
+      unfolding recordsOf batchOf readBatch readRecords
+      no-records p q = rw q
+
+      same-long : b′ .control .size ≡ b .control .size → length (inHand b) ≡ length (inHand b′)
+      unfolding inHand
+      same-long k =
+          let q : length (b .memory .batch) ≡ length (b′ .memory .batch) = sym (ap length batch ∙ e .room) in
+          front-long (b .control .size) (b .memory .batch) (b′ .memory .batch) q ∙ ap (λ (x : ℕ). length (part (b′ .memory .batch) 0 x)) (sym k)
+
+      empty-headed : (h n : ℕ) (rs : List Record) → rs ≡ [] → headedAfter words h n rs ≡ h
+      unfolding headedAfter
+      empty-headed h n rs q = rw q
+
+      headed-era : headedBefore w c ≡ stateOf (w .state) .fenced / 7
+      unfolding headedBefore
+      headed-era = rw n
+
+      -- either
+      pub made-along : Cursors (b .control) (b′ .control) (o .size) (o .code) → Along b′
+      made-along (inl k) =
+          let empty : recordsOf (ends w c) ≡ [] = no-records (ends w c) (sym (e .size) ∙ k .1) in
+          quiet empty (k .0 .at ∙ u .at ∙ same-long (k .0 .size)) (k .0 .headed) (omega (arith, k .0 .step, u .few)) (omega (arith, k .0 .size, a .fits, ap length batch, e .room))
+          (λ q. fence-stays empty (ends w c .code) refl)
+        where
+          fence-stays : recordsOf (ends w c) ≡ [] → (i : ℕ) → ends w c .code ≡ i → stateOf (v .state) .fenced / 7 ≡ stateOf (w .state) .fenced / 7
+          fence-stays empty zero h =
+              let d = call-due G D z w (a .way .standing .invariant) (a .way .waits) c allowed h .due words .headed in
+              let f : stateOf (v .state) .fenced / 7 ≡ headedAfter words (headedBefore w c) (nextOf (ends w c)) (recordsOf (ends w c)) =
+              ap (λ (y : List ℕ). stateOf y .fenced / 7) (t .state) ∙ sym d in
+              f ∙ empty-headed (headedBefore w c) (nextOf (ends w c)) (recordsOf (ends w c)) empty ∙ headed-era
+          fence-stays empty (suc i) h = ap (λ (x : World). stateOf (x .state) .fenced / 7) (step-refused w c i h)
+      made-along (inr k) = loud (sym (e .code) ∙ k .1) (k .0)

@@ -3,7 +3,7 @@ use Prim.Native.Nat.{ℕ, _+_, _*_, _%_, _≤_, _<_}
 use Rattle.model.specs.Layout.{groupOffset}
 use mathlib.Core.Path.{_≡_, refl, sym, ap, _∙_}
 use mathlib.Core.Logic.{_⊎_, inl, inr}
-use mathlib.Core.Bool.{Bool, true, false, cond, _&&_}
+use mathlib.Core.Bool.{Bool, true, false, cond, _&&_, false≢true}
 use mathlib.Core.List.{List, [], _∷_, _++_, append-assoc}
 use native.Mathlib.Omega.{arith}
 use lib.Dec.{eqb, leb, ltb}
@@ -111,6 +111,18 @@ record-not onWords groups homes next rest c =
     go false false false true h = fence-not onWords groups next c h
     go false false false false h = refused-not c h
 
+bare-kind : (k : ℕ) (c : Cursor) → bare k c .kind ≡ k
+unfolding bare
+bare-kind k c = refl
+
+last-true : (a b d e f g : Bool) → (a && b && d && e && f && g) ≡ true → g ≡ true
+last-true true true true true true g h = h
+last-true false b d e f g h = absurd (false≢true h)
+last-true true false d e f g h = absurd (false≢true h)
+last-true true true false e f g h = absurd (false≢true h)
+last-true true true true false f g h = absurd (false≢true h)
+last-true true true true true false g h = absurd (false≢true h)
+
 module _ (landing groups homes next : ℕ) (batch : List ℕ) (c : Cursor) where
   -- done, at the batch's end alone
   pub done-at : nextAction landing groups homes next batch c .kind ≡ 0 → c .at ≡ length batch
@@ -146,6 +158,18 @@ module _ (landing groups homes next : ℕ) (batch : List ℕ) (c : Cursor) where
       go true false false e h = absurd (no 3 (λ q. omega (arith, q)) (λ q. omega (arith, q)) (bare-no 3 h))
       go false b d e h = absurd (no 3 (λ q. omega (arith, q)) (λ q. omega (arith, q)) (bare-no 3 h))
 
+  few-at : (nextAction landing groups homes next batch c .kind ≡ 3 → ⊥) → c .stage ≤ 2
+  unfolding nextAction
+  few-at = go (asked landing groups next (length batch) c) refl
+    where
+      go : (a : Bool) → asked landing groups next (length batch) c ≡ a
+          → (cond a
+          (cond (eqb (c .at) (length batch)) (bare done c)
+          (cond (leb (c .at + 2) (length batch)) (recordAction (eqb landing 0) groups homes next (drop (c .at) batch) c) (bare refused c)))
+          (bare refused c) .kind ≡ 3 → ⊥) → c .stage ≤ 2
+      go true e h = leb-true (c .stage) 2 (last-true (leb landing 1) (leb 1 groups) (leb groups 1024) (leb (c .at) (length batch)) (leb (c .headed) next) (leb (c .stage) 2) (unfold asked in e))
+      go false e h = absurd (h (unfold bare in refl))
+
 module _ (l : Grain) (G D next : ℕ) (g₁ : 1 ≤ G) (g₂ : G ≤ 1024) where
   landing-low : leb (landingOf l) 1 ≡ true
   landing-low = go l
@@ -169,3 +193,11 @@ module _ (l : Grain) (G D next : ℕ) (g₁ : 1 ≤ G) (g₂ : G ≤ 1024) where
   pub hands-some : (batch log : List ℕ) (c : Cursor) (m : Motion) (ms : List Motion) (H : ℕ) → Hands l G D next batch log c (m ∷ ms) H → c .at < length batch
   hands-some batch log c (put p) ms H h = some-at (landingOf l) G D next batch c (inl (h .0 .0))
   hands-some batch log c wait ms H h = some-at (landingOf l) G D next batch c (inr (h .0))
+
+  -- the runner answers something else than a refusal only where the cursor may be asked
+  pub hands-few : (batch log : List ℕ) (c : Cursor) (ms : List Motion) (H : ℕ) → Hands l G D next batch log c ms H → c .stage ≤ 2
+  hands-few batch log c [] H h =
+      let k : nextAction (landingOf l) G D next batch c .kind ≡ 0 = ap (λ (a : Action). a .kind) (h .0) ∙ bare-kind 0 c in
+      few-at (landingOf l) G D next batch c (λ q. omega (arith, q, k))
+  hands-few batch log c (put p ∷ ms) H h = few-at (landingOf l) G D next batch c (λ q. omega (arith, q, h .0 .0))
+  hands-few batch log c (wait ∷ ms) H h = few-at (landingOf l) G D next batch c (λ q. omega (arith, q, h .0))

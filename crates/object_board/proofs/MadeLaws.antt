@@ -36,6 +36,7 @@ pub record SameEnd (o p : Outcome) (long : ℕ) : Type 0 where
   pub newest : o .newest ≡ p .newest
   pub bytes : take (o .size) (o .batch) ≡ take (p .size) (p .batch)
   pub room : length (o .batch) ≡ long
+  pub within : length (p .batch) ≤ long
 
 -- no call: all is as it was
 pub record Still (o : Outcome) (g : Given) : Type 0 where
@@ -67,6 +68,7 @@ module _ (w : World) (block batch : List ℕ) (v home : ℕ) where
   beside-batch : (o : Outcome) (c : Call) → ends w c ≡ leftWith (w .newest) o → length (o .batch) ≡ length batch → SameEnd (besideBatch g o) (ends w c) (length batch)
   unfolding besideBatch leftWith
   beside-batch o c e r =
+      let long : length (ends w c .batch) ≤ length batch = omega (arith, ap (λ (x : Outcome). length (x .batch)) e, r) in
       record {
         code = rw e;
         figure = rw e;
@@ -77,11 +79,13 @@ module _ (w : World) (block batch : List ℕ) (v home : ℕ) where
         newest = rw e;
         bytes = rw e;
         room = r;
+        within = long;
       }
 
-  beside-state : (o : Outcome) (c : Call) → ends w c ≡ leftWith (w .newest) o → o .size ≡ 0 → SameEnd (besideState g o) (ends w c) (length batch)
+  beside-state : (o : Outcome) (c : Call) → ends w c ≡ leftWith (w .newest) o → o .size ≡ 0 → length (o .batch) ≡ 0 → SameEnd (besideState g o) (ends w c) (length batch)
   unfolding besideState leftWith
-  beside-state o c e s =
+  beside-state o c e s r =
+      let long : length (ends w c .batch) ≤ length batch = omega (arith, ap (λ (x : Outcome). length (x .batch)) e, r) in
       record {
         code = rw e;
         figure = rw e;
@@ -92,11 +96,13 @@ module _ (w : World) (block batch : List ℕ) (v home : ℕ) where
         newest = rw e;
         bytes = rw (e, s);
         room = refl;
+        within = long;
       }
 
   beside-all : (o : Outcome) (c : Call) → ends w c ≡ o → length (o .batch) ≡ length batch → SameEnd (besideAll g o) (ends w c) (length batch)
   unfolding besideAll
   beside-all o c e r =
+      let long : length (ends w c .batch) ≤ length batch = omega (arith, ap (λ (x : Outcome). length (x .batch)) e, r) in
       record {
         code = rw e;
         figure = rw e;
@@ -107,6 +113,7 @@ module _ (w : World) (block batch : List ℕ) (v home : ℕ) where
         newest = rw e;
         bytes = rw e;
         room = r;
+        within = long;
       }
 
   store-made : SameEnd (stores g) (ends w (store v home block batch)) (length batch)
@@ -127,15 +134,15 @@ module _ (w : World) (block batch : List ℕ) (v home : ℕ) where
 
   reserve-made : (n : ℕ) → SameEnd (reserves g n) (ends w (reserve v n)) (length batch)
   unfolding reserves reserveCall reserveEffect newState
-  reserve-made n = beside-state _ _ (lent-alike .calls w (reserve v n)) (outcome-empty _ _ _ refl)
+  reserve-made n = beside-state _ _ (lent-alike .calls w (reserve v n)) (outcome-empty _ _ _ refl) (outcome-room _ _ _)
 
   confirm-made : SameEnd (confirms g) (ends w confirm) (length batch)
   unfolding confirms confirmCall confirmEffect newState
-  confirm-made = beside-state _ _ (lent-alike .calls w confirm) (outcome-empty _ _ _ refl)
+  confirm-made = beside-state _ _ (lent-alike .calls w confirm) (outcome-empty _ _ _ refl) (outcome-room _ _ _)
 
   round-made : SameEnd (roundBegins g) (ends w beginRound) (length batch)
   unfolding roundBegins beginRoundCall beginRoundEffect newState
-  round-made = beside-state _ _ (lent-alike .calls w beginRound) (outcome-empty _ _ _ refl)
+  round-made = beside-state _ _ (lent-alike .calls w beginRound) (outcome-empty _ _ _ refl) (outcome-room _ _ _)
 
   commit-made : SameEnd (commits g) (ends w (commit v batch)) (length batch)
   unfolding commits commitCall ends changeEnds history.lent
