@@ -6,3 +6,4 @@ pub mod StepLaws
 pub mod Along
 pub mod MoveLaws
 pub mod Stages
+pub mod Turns
