@@ -7,3 +7,4 @@ pub mod Along
 pub mod MoveLaws
 pub mod Stages
 pub mod Turns
+pub mod Follows
