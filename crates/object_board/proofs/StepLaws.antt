@@ -99,3 +99,21 @@ front-long n xs ys e = take-long n xs ys e
 pub front-is : (n : ℕ) (xs : List ℕ) → part xs 0 n ≡ take n xs
 unfolding part
 front-is n xs = refl
+
+take-few : (n : ℕ) (xs : List ℕ) → length (take n xs) ≤ n
+take-few zero xs = omega arith
+take-few (suc n) [] = omega arith
+take-few (suc n) (x ∷ xs) = omega (arith, take-few n xs)
+
+pub front-few : (n : ℕ) (xs : List ℕ) → length (part xs 0 n) ≤ n
+unfolding part
+front-few n xs = take-few n xs
+
+take-whole : (n : ℕ) (xs : List ℕ) → n ≤ length xs → length (take n xs) ≡ n
+take-whole zero xs h = refl
+take-whole (suc n) [] h = absurd (omega (arith, h))
+take-whole (suc n) (x ∷ xs) h = ap suc (take-whole n xs (omega (arith, h)))
+
+pub front-whole : (n : ℕ) (xs : List ℕ) → n ≤ length xs → length (part xs 0 n) ≡ n
+unfolding part
+front-whole n xs h = take-whole n xs h
