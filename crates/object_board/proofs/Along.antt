@@ -365,3 +365,17 @@ module _ (l : Grain) (G D : ℕ) (z : Sizes G D) where
               f ∙ empty-headed (headedBefore w c) (nextOf (ends w c)) (recordsOf (ends w c)) empty ∙ headed-era
           fence-stays empty (suc i) h = ap (λ (x : World). stateOf (x .state) .fenced / 7) (step-refused w c i h)
       made-along (inr k) = loud (sym (e .code) ∙ k .1) (k .0)
+
+      pub record Went : Type 0 where
+        pub along : Along b′
+        pub world : along .w ≡ step (a .w) (call c)
+        pub store : along .s ≡ follow (a .s) (a .w) (call c)
+
+      pub went : Cursors (b .control) (b′ .control) (o .size) (o .code) → Went
+      unfolding made-along quiet loud
+      went (inl k) = record { along = made-along (inl k); world = refl; store = refl }
+      went (inr k) = record { along = made-along (inr k); world = refl; store = refl }
+
+      pub went-none : (k : SameCursor (b .control) (b′ .control)) (q : o .size ≡ 0) → went (inl (k, q)) .along .rest ≡ []
+      unfolding went made-along quiet
+      went-none k q = refl

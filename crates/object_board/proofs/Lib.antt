@@ -8,3 +8,4 @@ pub mod MoveLaws
 pub mod Stages
 pub mod Turns
 pub mod Follows
+pub mod Calling
