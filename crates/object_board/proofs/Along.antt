@@ -184,6 +184,17 @@ module _ (l : Grain) (G D : ℕ) (z : Sizes G D) where
         )
         go (inr k) = (k .0 .at ∙ (unfold inHand part in rw (k .0 .size)), k .0 .headed, omega (arith, k .0 .step), omega (arith, k .0 .size))
 
+    pub record Stayed : Type 0 where
+      pub along : Along b′
+      pub world : along .w ≡ a .w
+      pub store : along .s ≡ a .s
+      pub none : along .rest ≡ []
+
+    pub stayed : b′ .memory .log ≡ b .memory .log → b′ .memory .area ≡ b .memory .area → b′ .memory .state ≡ b .memory .state
+        → b′ .memory .newest ≡ b .memory .newest → b′ .memory .batch ≡ b .memory .batch → b′ .book ≡ b .book → Cursors (b .control) (b′ .control) 0 0 → Stayed
+    unfolding unmade-along
+    stayed e₁ e₂ e₃ e₄ e₅ e₆ k = record { along = unmade-along e₁ e₂ e₃ e₄ e₅ e₆ k; world = refl; store = refl; none = refl }
+
     -- one: the world goes on by it
     module _ (c : Call) (n : isOpening c ≡ false) (o : Outcome) (e : SameEnd o (ends (a .w) c) (length (b .memory .batch))) (log : b′ .memory .log ≡ o .log) (area : b′ .memory .area ≡ o .area) (state : b′ .memory .state ≡ o .state) (newest : b′ .memory .newest ≡ o .newest) (batch : b′ .memory .batch ≡ o .batch) (book : b′ .book ≡ fedBy (b .book) (some c) (o .code) (o .figure)) where
       abbrev w : World

@@ -10,6 +10,7 @@ use native.Mathlib.Decide.{decLe}
 use lib.Dec.{eqb, leb}
 use lib.ListN.{length, getD}
 use borrow.Author.Tests.{eqb-true, eqb-false, ne-eqb}
+use Rattle.model.specs.Layout.{homesIn}
 use Rattle.model.specs.State.{stateOf}
 use Rattle.model.specs.Effects.{Given, Effect}
 use Rattle.model.specs.Calls.{Outcome, outcome, refused, done as doneCall}
@@ -34,7 +35,7 @@ use Rattle.object_board.proofs.MadeLaws.{SameEnd, Still, Made, unmade, 
 use Rattle.object_board.proofs.MadeLaws as makings
 use Rattle.object_board.proofs.StepLaws.{front-whole}
 use Rattle.object_board.proofs.Ways.{Way, way-answers, all-owed}
-use Rattle.object_board.proofs.Along.{SameCursor, NewBatch, Cursors, Along, Out, all-out, unmade-along, Went, went, went-none}
+use Rattle.object_board.proofs.Along.{SameCursor, NewBatch, Cursors, Along, Out, all-out, Stayed, stayed, Went, went, went-none}
 use Rattle.object_board.proofs.MoveLaws.{CalledTo, over, on, room, fence, no, UncalledTo, load-log, load-area, opens, ends as endsAll, settles, again, gives-up, gone}
 use Rattle.object_board.proofs.Stages.{syncStage, otherStage, isOther, sync-after, other-after, not-opening, no-call, flush-call, confirm-call, sync-not, other-not, other-op}
 use Rattle.object_board.proofs.Turns.{movesTo, Calls, calls-next, made-call, follows-called, follows-uncalled, Stays, called-cursors, uncalled-cursors}
@@ -79,3 +80,167 @@ flush-fenced s w batch e = rw e (go (eqb (s .book .filled) 0) refl)
         → 7 * (s .head + s .groups + book.flush (s .book) .rows) ≡ 7 * (s .head + s .groups + book.flush (s .book) .rows) + book.flush (s .book) .filled
     go true q = (unfold book.flush in rw q (omega (arith, eqb-true (s .book .filled) 0 q)))
     go false q = (unfold book.flush submit in rw q (omega arith))
+
+some-same : (c d : Call) → some c ≡ some d → c ≡ d
+some-same c d e = cc
+
+none-some : (c : Call) → none ≡ some c → ⊥
+none-some c e = false≢true (ap isSome e)
+  where
+    isSome : Option Call → Bool
+    isSome none = false
+    isSome (some c) = true
+
+call-not-one : (b : Board) → (b .control .stage ≡ 1 → ⊥) → callFor b ≡ 1 → ⊥
+unfolding callFor
+call-not-one b n = not-opening (b .control) (stateOf (b .memory .state)) (homesIn (length (b .memory .area))) n
+
+call-none : (b : Board) → 19 ≤ b .control .stage → callFor b ≡ 0
+unfolding callFor
+call-none b l = no-call (b .control) (stateOf (b .memory .state)) (homesIn (length (b .memory .area))) l
+
+call-flush : (b : Board) → b .control .stage ≡ 5 → callFor b ≡ 5
+unfolding callFor
+call-flush b e = flush-call (b .control) (stateOf (b .memory .state)) (homesIn (length (b .memory .area))) e
+
+call-confirm : (b : Board) → b .control .stage ≡ 6 → callFor b ≡ 6
+unfolding callFor
+call-confirm b e = confirm-call (b .control) (stateOf (b .memory .state)) (homesIn (length (b .memory .area))) e
+
+is-flush : (g : Given) (n k : ℕ) → k ≡ 5 → callOf k g n ≡ some (flush (g .batch))
+unfolding callOf
+is-flush g n k e = rw e
+
+is-confirm : (g : Given) (n k : ℕ) → k ≡ 6 → callOf k g n ≡ some confirm
+unfolding callOf
+is-confirm g n k e = rw e
+
+is-none : (g : Given) (n k : ℕ) → k ≡ 0 → callOf k g n ≡ none
+unfolding callOf
+is-none g n k e = rw e
+
+still-none : (g : Given) (n k : ℕ) → k ≡ 0 → Still (makes k g n) g
+unfolding makes roomCall nothing refused
+still-none g n k e = rw e (record { size = refl; log = refl; area = refl; state = refl; newest = refl; batch = refl })
+
+given-same : (m : Lent) (c : Control) (log area state newest : List ℕ) → m .log ≡ log → m .area ≡ area → m .state ≡ state → m .newest ≡ newest
+    → given m c ≡ lentAll log area state newest (m .block) (m .batch) (c .writer) (c .home)
+unfolding given
+given-same m c log area state newest e₁ e₂ e₃ e₄ = rw (e₁, e₂, e₃, e₄)
+
+module _ (l : Grain) (G D : ℕ) (z : Sizes G D) (b : Board) (a : Along l G D z b) (e : a .rest ≡ []) (f : Facts l G D z (b .control) (a .w) (a .s)) (n : b .control .stage ≡ 0 → ⊥) where
+  abbrev w : World
+  w = a .w
+
+  abbrev c : Control
+  c = b .control
+
+  abbrev b′ : Board
+  b′ = next b 0
+
+  u : Out l G D z b a
+  u = all-out l G D z b a e
+
+  all-at : c .size ≤ c .at
+  all-at = let q : length (inHand b) ≡ c .size = (unfold inHand in front-whole (c .size) (b .memory .batch) (a .fits)) in omega (arith, u .at, q)
+
+  k : Calls b (next b 0)
+  k = calls-next b all-at
+
+  given-is : given (b .memory) c ≡ lentAll (w .log) (w .area) (w .state) (w .newest) (b .memory .block) (b .memory .batch) (c .writer) (c .home)
+  given-is = given-same (b .memory) c (w .log) (w .area) (w .state) (w .newest) (a .copies .log) (a .copies .area) (a .copies .state) (a .copies .newest)
+
+  by-kind : Kind c → (c .stage ≡ 1 → ⊥) × (c .stage ≡ 19 → ⊥) × (c .stage ≡ 20 → ⊥)
+  by-kind (idle x y) = absurd (n x)
+  by-kind (other x y q) = let o = other-not (c .stage) x in (o .1, o .3, o .4)
+  by-kind (sync x y q) = let o = sync-not (c .stage) x in (o .1, o .2, o .3)
+  by-kind (opening x y q) = ((λ h. omega (arith, h, x)), (λ h. omega (arith, h, x)), λ h. omega (arith, h, x))
+
+  makes-which : Made w (given (b .memory) c) (c .number) (callFor b)
+  makes-which =
+      subst (λ (g : Given). Made w g (c .number) (callFor b)) (sym given-is)
+      (made-by w (b .memory .block) (b .memory .batch) (c .writer) (c .home) (c .number) (callFor b) (call-not-one b (by-kind (f .kind) .0)))
+
+  abbrev m : Moved
+  m = movesTo b
+
+  -- ---- no call
+
+  module _ (none-made : madeCall b 0 ≡ none) (q : Still (made b) (given (b .memory) c)) (x : Cursors c (m .control) 0 0) (y : Stays c (m .control)) where
+    still-on : Stayed l G D z b b′ a u (k .homes) (k .medium) (ap (λ (i : Control). i .landing) (k .control) ∙ y .landing)
+    unfolding given fedBy
+    still-on =
+        stayed l G D z b b′ a u (k .homes) (k .medium) (ap (λ (i : Control). i .landing) (k .control) ∙ y .landing)
+        (k .log ∙ q .log) (k .area ∙ q .area) (k .state ∙ q .state) (k .newest ∙ q .newest) (k .batch ∙ q .batch)
+        (k .book ∙ ap (λ (i : Option Call). fedBy (b .book) i (made b .code) (made b .figure)) none-made)
+        (subst (λ (i : Control). Cursors c i 0 0) (sym (k .control)) x)
+
+    still-follows : Kind (m .control) → (m .control .stage ≡ 6 → a .s .fenced ≡ nextOf (a .s))
+        → (m .control .stage ≡ 21 → ⊥) → Quiet b′ → (isOver (m .turn) ≡ false → m .control .stage ≡ 0 → ⊥) → Follows l G D z b′
+    still-follows d h i j o =
+        let g = still-on in
+        quiet-follows l G D z b′ (g .along) j
+        (subst (λ (x : Control). Facts l G D z x (g .along .w) (g .along .s)) (sym (k .control))
+        (record {
+          kind = d;
+          fenced = λ s. subst (λ (t : Store). t .fenced ≡ nextOf t) (sym (g .store)) (h s);
+          area = λ s. absurd (i s);
+        }))
+        (λ s. g .none)
+        (λ p r. o (subst (λ (t : Turn). isOver t ≡ false) (k .turn) p) (ap (λ (i : Control). i .stage) (sym (k .control)) ∙ r))
+
+  -- ---- a call
+
+  module _ (d : Call) (some-made : madeCall b 0 ≡ some d) (p : isOpening d ≡ false) (q : SameEnd (made b) (ends w d) (length (b .memory .batch))) (y : Stays c (m .control)) where
+    gone-on : Cursors c (m .control) (made b .size) (made b .code)
+        → Went l G D z b b′ a u (k .homes) (k .medium) (ap (λ (i : Control). i .landing) (k .control) ∙ y .landing) d p (made b) q (k .log) (k .area) (k .state) (k .newest) (k .batch)
+        (k .book ∙ ap (λ (i : Option Call). fedBy (b .book) i (made b .code) (made b .figure)) some-made)
+    gone-on x =
+        went l G D z b b′ a u (k .homes) (k .medium) (ap (λ (i : Control). i .landing) (k .control) ∙ y .landing) d p (made b) q (k .log) (k .area) (k .state) (k .newest) (k .batch)
+        (k .book ∙ ap (λ (i : Option Call). fedBy (b .book) i (made b .code) (made b .figure)) some-made)
+        (subst (λ (i : Control). Cursors c i (made b .size) (made b .code)) (sym (k .control)) x)
+
+    call-follows : (x : Cursors c (m .control) (made b .size) (made b .code)) → Kind (m .control)
+        → (m .control .stage ≡ 6 → follow (a .s) w (call d) .fenced ≡ nextOf (follow (a .s) w (call d)))
+        → (m .control .stage ≡ 21 → ⊥) → Quiet b′ → (m .control .stage ≡ 0 → gone-on x .along .rest ≡ []) → (isOver (m .turn) ≡ false → m .control .stage ≡ 0 → ⊥)
+        → Follows l G D z b′
+    call-follows x d₁ h i j r o =
+        let g = gone-on x in
+        quiet-follows l G D z b′ (g .along) j
+        (subst (λ (x : Control). Facts l G D z x (g .along .w) (g .along .s)) (sym (k .control))
+        (record {
+          kind = d₁;
+          fenced = λ s. subst (λ (t : Store). t .fenced ≡ nextOf t) (sym (g .store)) (h s);
+          area = λ s. absurd (i s);
+        }))
+        (λ s. r (ap (λ (i : Control). i .stage) (sym (k .control)) ∙ s))
+        (λ p r. o (subst (λ (t : Turn). isOver t ≡ false) (k .turn) p) (ap (λ (i : Control). i .stage) (sym (k .control)) ∙ r))
+
+  -- ---- what is told
+
+  -- an operation that is neither an opening nor a sync
+  tells-other : isOther (c .op) ≡ true → Stays c (m .control) → Tells b′
+  tells-other o y =
+      let h = other-op (c .op) o in
+      let p : b′ .control .op ≡ c .op = ap (λ (i : Control). i .op) (k .control) ∙ y .op in
+      record {
+        opened = λ q. absurd (h .2 (sym p ∙ q));
+        opening = λ q. absurd (h .2 (sym p ∙ q));
+        synced = λ q. absurd (h .1 (sym p ∙ q));
+      }
+
+  -- a sync
+  tells-sync : c .op ≡ 5 → Stays c (m .control) → (b′ .told .code ≡ 0 → AllOwed (b′ .book .commits)) → Tells b′
+  tells-sync o y t =
+      let p : b′ .control .op ≡ 5 = ap (λ (i : Control). i .op) (k .control) ∙ y .op ∙ o in
+      record {
+        opened = λ q. absurd (omega (arith, p, q));
+        opening = λ q. absurd (omega (arith, p, q));
+        synced = λ q. t;
+      }
+
+  told-code : (t : Turn) → m .turn ≡ t → b′ .told .code ≡ t .code
+  told-code t e = ap (λ (i : Turn). i .code) (k .told ∙ e)
+
+  passing : m .turn ≡ pass → isOver (b′ .told) ≡ true → Tells b′
+  passing e h = absurd (pass-under (subst (λ (i : Turn). isOver i ≡ true) (k .told ∙ e) h))
