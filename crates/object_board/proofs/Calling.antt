@@ -25,7 +25,7 @@ use Rattle.object.specs.Medium.{Grain}
 use Rattle.object_machine.specs.declared.Control.{Control}
 use Rattle.object_machine.specs.declared.Turn.{Turn}
 use Rattle.object_machine.specs.declared.Moved.{Moved}
-use Rattle.object_machine.specs.Control.{withCursor, withStage, withBatch, withCondition, withRoom}
+use Rattle.object_machine.specs.Control.{ready, withCursor, withStage, withBatch, withCondition, withRoom}
 use Rattle.object_machine.specs.Moves.{done, pass, full, after}
 use Rattle.object_machine.specs.Moves as machine
 use Rattle.object_machine.specs.Calls.{nothing, roomCall}
@@ -122,6 +122,48 @@ is-none g n k e = rw e
 still-none : (g : Given) (n k : ℕ) → k ≡ 0 → Still (makes k g n) g
 unfolding makes roomCall nothing refused
 still-none g n k e = rw e (record { size = refl; log = refl; area = refl; state = refl; newest = refl; batch = refl })
+
+pub record MovesOn (m : Moved) (c : Control) (stage condition : ℕ) (t : Turn) : Type 0 where
+  pub stage-is : m .control .stage ≡ stage
+  pub condition-is : m .control .condition ≡ condition
+  pub op : m .control .op ≡ c .op
+  pub turn : m .turn ≡ t
+
+stage-of : (m : Moved) (c : Control) (n : ℕ) (t : Turn) → m ≡ machine.moved (withStage c n) t → MovesOn m c n (c .condition) t
+unfolding machine.moved withStage
+stage-of m c n t e = record { stage-is = rw e; condition-is = rw e; op = rw e; turn = rw e }
+
+rest-of : (m : Moved) (c : Control) (at headed step : ℕ) (t : Turn) → m ≡ machine.moved (withStage (withCursor c at headed step) 0) t → MovesOn m c 0 (c .condition) t
+unfolding machine.moved withStage withCursor
+rest-of m c at headed step t e = record { stage-is = rw e; condition-is = rw e; op = rw e; turn = rw e }
+
+open-of : (m : Moved) (c : Control) (t : Turn) → m ≡ machine.moved (withCondition c ready 0) t → MovesOn m c 0 2 t
+unfolding machine.moved withCondition
+open-of m c t e = record { stage-is = rw e; condition-is = rw e; op = rw e; turn = rw e }
+
+batch-of : (m : Moved) (c : Control) (at headed step n figure size : ℕ) (t : Turn) → m ≡ machine.moved (withBatch (withCursor c at headed step) n figure size) t
+    → MovesOn m c n (c .condition) t
+unfolding machine.moved withBatch withCursor
+batch-of m c at headed step n figure size t e = record { stage-is = rw e; condition-is = rw e; op = rw e; turn = rw e }
+
+room-of : (m : Moved) (c : Control) (n from : ℕ) (t : Turn) → m ≡ machine.moved (withRoom c n from) t → MovesOn m c n (c .condition) t
+unfolding machine.moved withRoom
+room-of m c n from t e = record { stage-is = rw e; condition-is = rw e; op = rw e; turn = rw e }
+
+-- the same operation at another stage
+to-other : (m : Moved) (c : Control) (n : ℕ) (t : Turn) → MovesOn m c n (c .condition) t → otherStage n ≡ true → isOther (c .op) ≡ true → c .condition ≡ 2 → Kind (m .control)
+to-other m c n t o a b d = other (ap otherStage (o .stage-is) ∙ a) (ap isOther (o .op) ∙ b) (o .condition-is ∙ d)
+
+to-sync : (m : Moved) (c : Control) (n : ℕ) (t : Turn) → MovesOn m c n (c .condition) t → syncStage n ≡ true → c .op ≡ 5 → c .condition ≡ 2 → Kind (m .control)
+to-sync m c n t o a b d = sync (ap syncStage (o .stage-is) ∙ a) (o .op ∙ b) (o .condition-is ∙ d)
+
+five : syncStage 5 ≡ true
+unfolding syncStage
+five = refl
+
+full-sync : full 5 ≡ 18
+unfolding full
+full-sync = refl
 
 given-same : (m : Lent) (c : Control) (log area state newest : List ℕ) → m .log ≡ log → m .area ≡ area → m .state ≡ state → m .newest ≡ newest
     → given m c ≡ lentAll log area state newest (m .block) (m .batch) (c .writer) (c .home)
@@ -244,3 +286,126 @@ module _ (l : Grain) (G D : ℕ) (z : Sizes G D) (b : Board) (a : Along l G D z 
 
   passing : m .turn ≡ pass → isOver (b′ .told) ≡ true → Tells b′
   passing e h = absurd (pass-under (subst (λ (i : Turn). isOver i ≡ true) (k .told ∙ e) h))
+
+  abbrev Result : Type 0
+  Result = Follows l G D z b′ × (isOver (b′ .told) ≡ true → Tells b′)
+
+  -- ---- stages without a call
+
+  module _ (high : 19 ≤ c .stage) where
+    none-made : madeCall b 0 ≡ none
+    none-made = made-call b all-at ∙ is-none (given (b .memory) c) (c .number) (callFor b) (call-none b high)
+
+    still : Still (made b) (given (b .memory) c)
+    unfolding made
+    still = still-none (given (b .memory) c) (c .number) (callFor b) (call-none b high)
+
+    module _ (x : Cursors c (m .control) 0 0) (y : Stays c (m .control)) where
+      on-stage : (n : ℕ) → MovesOn m c n (c .condition) pass → Kind (m .control) → (n ≡ 6 → ⊥) → (n ≡ 21 → ⊥) → (n ≡ 0 → ⊥) → Result
+      on-stage n o d a₁ a₂ a₃ =
+          (still-follows none-made still x y d (λ q. absurd (a₁ (sym (o .stage-is) ∙ q))) (λ q. a₂ (sym (o .stage-is) ∙ q)) (quiet-pass b′ (k .turn ∙ o .turn))
+          (λ p q. a₃ (sym (o .stage-is) ∙ q)), passing (o .turn))
+
+      at-rest : (code figure i : ℕ) → MovesOn m c 0 i (done code figure) → i ≡ 2 → Tells b′ → Result
+      at-rest code figure i o j t =
+          (still-follows none-made still x y (idle (o .stage-is) (o .condition-is ∙ j)) (λ q. absurd (omega (arith, o .stage-is, q))) (λ q. omega (arith, o .stage-is, q))
+          (quiet-done b′ code figure (k .turn ∙ o .turn))
+          (λ p q. done-over code figure (subst (λ (i : Turn). isOver i ≡ false) (o .turn) p)), λ h. t)
+
+    book-kept : b′ .book ≡ w .book
+    unfolding fedBy
+    book-kept = k .book ∙ ap (λ (i : Option Call). fedBy (b .book) i (made b .code) (made b .figure)) none-made ∙ a .book
+
+    area-kept : b′ .memory .area ≡ w .area
+    unfolding given
+    area-kept = k .area ∙ still .area ∙ a .copies .area
+
+    shows : c .stage ≡ 21 → b′ .memory .area ≡ homesAfter (b′ .homes) (b′ .book .commits)
+    shows s =
+        area-kept ∙ f .area s ∙ ap (λ (i : ℕ). homesAfter i (w .book .commits)) (sym (k .homes ∙ a .homes))
+        ∙ ap (λ (i : Book). homesAfter (b′ .homes) (i .commits)) (sym book-kept)
+
+    uncalled-result : UncalledTo c (length (b .memory .log)) (length (b .memory .area)) m → Result
+    uncalled-result (load-log s q) = absurd (by-kind (f .kind) .1 s)
+    uncalled-result (load-area s q) = absurd (by-kind (f .kind) .2 s)
+    uncalled-result (opens s q) = go (f .kind)
+      where
+        v : Cursors c (m .control) 0 0 × Stays c (m .control)
+        v = uncalled-cursors c (length (b .memory .log)) (length (b .memory .area)) m (opens s q)
+
+        o : MovesOn m c 0 2 (done 0 (c .figure))
+        o = open-of m c (done 0 (c .figure)) q
+
+        go : Kind c → Result
+        go (idle h i) = absurd (n h)
+        go (other h i j) = absurd (other-not (c .stage) h .5 s)
+        go (sync h i j) = absurd (sync-not (c .stage) h .4 s)
+        go (opening h i j) =
+            at-rest (v .0) (v .1) 0 (c .figure) 2 o refl
+            (record {
+              opened = λ p r. shows s;
+              opening = λ p. inl (told-code (done 0 (c .figure)) (o .turn) ∙ done-code 0 (c .figure));
+              synced = λ p. absurd (omega (arith, p, i, ap (λ (i : Control). i .op) (k .control) ∙ v .1 .op));
+            })
+    uncalled-result (endsAll t s q) = go (f .kind) s
+      where
+        v : Cursors c (m .control) 0 0 × Stays c (m .control)
+        v = uncalled-cursors c (length (b .memory .log)) (length (b .memory .area)) m (endsAll t s q)
+
+        o : MovesOn m c 0 (c .condition) (done 0 t)
+        o = stage-of m c 0 (done 0 t) q
+
+        go : Kind c → (c .stage ≡ 22) ⊎ (c .stage ≡ 25) → Result
+        go (idle h i) x = absurd (n h)
+        go (other h i j) x = at-rest (v .0) (v .1) 0 t (c .condition) o j (tells-other i (v .1))
+        go (sync h i j) (inl x) = absurd (sync-not (c .stage) h .5 x)
+        go (sync h i j) (inr x) = absurd (sync-not (c .stage) h .6 x)
+        go (opening h i j) (inl x) = absurd (omega (arith, h, x))
+        go (opening h i j) (inr x) = absurd (omega (arith, h, x))
+    uncalled-result (settles s q) = go (f .kind)
+      where
+        v : Cursors c (m .control) 0 0 × Stays c (m .control)
+        v = uncalled-cursors c (length (b .memory .log)) (length (b .memory .area)) m (settles s q)
+
+        o : MovesOn m c 11 (c .condition) pass
+        o = stage-of m c 11 pass q
+
+        go : Kind c → Result
+        go (idle h i) = absurd (n h)
+        go (other h i j) =
+            on-stage (v .0) (v .1) 11 o (to-other m c 11 pass o (unfold otherStage in refl) i j) (λ p. omega (arith, p)) (λ p. omega (arith, p)) (λ p. omega (arith, p))
+        go (sync h i j) =
+            on-stage (v .0) (v .1) 11 o (to-sync m c 11 pass o (unfold syncStage in refl) i j) (λ p. omega (arith, p)) (λ p. omega (arith, p)) (λ p. omega (arith, p))
+        go (opening h i j) = absurd (omega (arith, h, s))
+    uncalled-result (again s q) = go (f .kind)
+      where
+        v : Cursors c (m .control) 0 0 × Stays c (m .control)
+        v = uncalled-cursors c (length (b .memory .log)) (length (b .memory .area)) m (again s q)
+
+        o : MovesOn m c (c .op) (c .condition) pass
+        o = stage-of m c (c .op) pass q
+
+        go : Kind c → Result
+        go (idle h i) = absurd (n h)
+        go (other h i j) =
+            let x = other-op (c .op) i .0 in
+            let y = other-not (c .op) x in
+            on-stage (v .0) (v .1) (c .op) o (to-other m c (c .op) pass o x i j) (y .2) (y .5) (y .0)
+        go (sync h i j) =
+            on-stage (v .0) (v .1) (c .op) o (to-sync m c (c .op) pass o (ap syncStage i ∙ five) i j) (λ p. omega (arith, p, i)) (λ p. omega (arith, p, i)) (λ p. omega (arith, p, i))
+        go (opening h i j) = absurd (s h)
+    uncalled-result (gives-up t s q) = go (f .kind)
+      where
+        v : Cursors c (m .control) 0 0 × Stays c (m .control)
+        v = uncalled-cursors c (length (b .memory .log)) (length (b .memory .area)) m (gives-up t s q)
+
+        o : MovesOn m c 0 (c .condition) (done (full (c .op)) t)
+        o = stage-of m c 0 (done (full (c .op)) t) q
+
+        go : Kind c → Result
+        go (idle h i) = absurd (n h)
+        go (other h i j) = at-rest (v .0) (v .1) (full (c .op)) t (c .condition) o j (tells-other i (v .1))
+        go (sync h i j) =
+            at-rest (v .0) (v .1) (full (c .op)) t (c .condition) o j
+            (tells-sync i (v .1) (λ p. absurd (omega (arith, p, told-code (done (full (c .op)) t) (o .turn) ∙ done-code (full (c .op)) t ∙ ap full i ∙ full-sync))))
+        go (opening h i j) = absurd (s h)
