@@ -12,6 +12,7 @@ use lib.ListN.{length, getD}
 use borrow.Author.Tests.{eqb-true, eqb-false, ne-eqb}
 use Rattle.model.specs.Layout.{homesIn}
 use Rattle.model.specs.State.{stateOf}
+use Rattle.model.specs.declared.State.{State}
 use Rattle.model.specs.Effects.{Given, Effect}
 use Rattle.model.specs.Calls.{Outcome, outcome, refused, done as doneCall}
 use Rattle.model.specs.Book.{Book, Commit, homesAfter, owedBy, withCommits, submit}
@@ -33,12 +34,12 @@ use Rattle.object_machine.specs.Next.{Lent, given, makes}
 use Rattle.object_board.specs.Board.{Board, inHand, isOver, loadsLog, loadsArea, callOf, fedBy, callFor, made, madeCall, next, AllOwed, Tells}
 use Rattle.object_board.proofs.MadeLaws.{SameEnd, Still, Made, unmade, made-by}
 use Rattle.object_board.proofs.MadeLaws as makings
-use Rattle.object_board.proofs.StepLaws.{front-whole}
+use Rattle.object_board.proofs.StepLaws.{front-whole, stepped}
 use Rattle.object_board.proofs.Ways.{Way, way-answers, all-owed}
-use Rattle.object_board.proofs.Along.{SameCursor, NewBatch, Cursors, Along, Out, all-out, Stayed, stayed, Went, went, went-none}
-use Rattle.object_board.proofs.MoveLaws.{CalledTo, over, on, room, fence, no, UncalledTo, load-log, load-area, opens, ends as endsAll, settles, again, gives-up, gone}
+use Rattle.object_board.proofs.Along.{SameCursor, NewBatch, Cursors, Along, Out, all-out, passed-fences, Stayed, stayed, Went, went, went-none}
+use Rattle.object_board.proofs.MoveLaws.{CalledTo, over, on, room, fence, no as refuse, UncalledTo, load-log, load-area, opens, ends as endsAll, settles, again, gives-up, gone}
 use Rattle.object_board.proofs.Stages.{syncStage, otherStage, isOther, sync-after, other-after, not-opening, no-call, flush-call, confirm-call, sync-not, other-not, other-op}
-use Rattle.object_board.proofs.Turns.{movesTo, Calls, calls-next, made-call, follows-called, follows-uncalled, Stays, called-cursors, uncalled-cursors}
+use Rattle.object_board.proofs.Turns.{movesTo, Calls, calls-next, made-call, follows-called, follows-uncalled, Stays, over-same, on-new, room-same, stage-same, uncalled-cursors}
 use Rattle.object_board.proofs.Follows.{dueOf, Kind, idle, other, sync, opening, Quiet, Facts, Follows, quiet-follows}
 
 -- turns for nobody, and answers
@@ -165,6 +166,30 @@ full-sync : full 5 ≡ 18
 unfolding full
 full-sync = refl
 
+is-six : (n : ℕ) → (n ≡ 6) ⊎ (n ≡ 6 → ⊥)
+is-six n = go (eqb n 6) refl
+  where
+    go : (d : Bool) → eqb n 6 ≡ d → (n ≡ 6) ⊎ (n ≡ 6 → ⊥)
+    go true e = inl (eqb-true n 6 e)
+    go false e = inr (eqb-false n 6 e)
+
+after-six : getD after 6 0 ≡ 22
+unfolding after
+after-six = refl
+
+confirm-told : (w : World) (s : Store) → replyOf (ends w confirm) ≡ reply s confirm
+    → (ends w confirm .size ≡ 0) × (ends w confirm .figure ≡ s .fenced) × (ends w confirm .code ≡ 0)
+unfolding replyOf reply told
+confirm-told w s h = (ap (λ (i : Reply). i .size) h, ap (λ (i : Reply). i .figure) h, ap (λ (i : Reply). i .code) h)
+
+confirm-owes : (b : Book) (code figure mark : ℕ) → code ≡ 0 → figure ≡ mark → AllOwed (owedBy mark (b .commits)) → AllOwed (fedBy b (some confirm) code figure .commits)
+unfolding fedBy feed withCommits
+confirm-owes b code figure mark e g h = rw (e, g) h
+
+given-batch : (m : Lent) (c : Control) → given m c .batch ≡ m .batch
+unfolding given
+given-batch m c = refl
+
 given-same : (m : Lent) (c : Control) (log area state newest : List ℕ) → m .log ≡ log → m .area ≡ area → m .state ≡ state → m .newest ≡ newest
     → given m c ≡ lentAll log area state newest (m .block) (m .batch) (c .writer) (c .home)
 unfolding given
@@ -234,20 +259,26 @@ module _ (l : Grain) (G D : ℕ) (z : Sizes G D) (b : Board) (a : Along l G D z 
   -- ---- a call
 
   module _ (d : Call) (some-made : madeCall b 0 ≡ some d) (p : isOpening d ≡ false) (q : SameEnd (made b) (ends w d) (length (b .memory .batch))) (y : Stays c (m .control)) where
-    gone-on : Cursors c (m .control) (made b .size) (made b .code)
-        → Went l G D z b b′ a u (k .homes) (k .medium) (ap (λ (i : Control). i .landing) (k .control) ∙ y .landing) d p (made b) q (k .log) (k .area) (k .state) (k .newest) (k .batch)
+    abbrev Goes : Type 0
+    Goes =
+        Went l G D z b b′ a u (k .homes) (k .medium) (ap (λ (i : Control). i .landing) (k .control) ∙ y .landing) d p (made b) q (k .log) (k .area) (k .state) (k .newest) (k .batch)
         (k .book ∙ ap (λ (i : Option Call). fedBy (b .book) i (made b .code) (made b .figure)) some-made)
-    gone-on x =
-        went l G D z b b′ a u (k .homes) (k .medium) (ap (λ (i : Control). i .landing) (k .control) ∙ y .landing) d p (made b) q (k .log) (k .area) (k .state) (k .newest) (k .batch)
-        (k .book ∙ ap (λ (i : Option Call). fedBy (b .book) i (made b .code) (made b .figure)) some-made)
-        (subst (λ (i : Control). Cursors c i (made b .size) (made b .code)) (sym (k .control)) x)
 
-    call-follows : (x : Cursors c (m .control) (made b .size) (made b .code)) → Kind (m .control)
-        → (m .control .stage ≡ 6 → follow (a .s) w (call d) .fenced ≡ nextOf (follow (a .s) w (call d)))
-        → (m .control .stage ≡ 21 → ⊥) → Quiet b′ → (m .control .stage ≡ 0 → gone-on x .along .rest ≡ []) → (isOver (m .turn) ≡ false → m .control .stage ≡ 0 → ⊥)
+    goes-by : Cursors c (b′ .control) (made b .size) (made b .code) → Goes
+    goes-by x =
+        went l G D z b b′ a u (k .homes) (k .medium) (ap (λ (i : Control). i .landing) (k .control) ∙ y .landing) d p (made b) q (k .log) (k .area) (k .state) (k .newest) (k .batch)
+        (k .book ∙ ap (λ (i : Option Call). fedBy (b .book) i (made b .code) (made b .figure)) some-made) x
+
+    rest-none : (x : SameCursor c (b′ .control)) (r : made b .size ≡ 0) → goes-by (inl (x, r)) .along .rest ≡ []
+    unfolding goes-by
+    rest-none x r =
+        went-none l G D z b b′ a u (k .homes) (k .medium) (ap (λ (i : Control). i .landing) (k .control) ∙ y .landing) d p (made b) q (k .log) (k .area) (k .state) (k .newest)
+        (k .batch) (k .book ∙ ap (λ (i : Option Call). fedBy (b .book) i (made b .code) (made b .figure)) some-made) x r
+
+    call-follows : (g : Goes) → Kind (m .control) → (m .control .stage ≡ 6 → follow (a .s) w (call d) .fenced ≡ nextOf (follow (a .s) w (call d)))
+        → (m .control .stage ≡ 21 → ⊥) → Quiet b′ → (m .control .stage ≡ 0 → g .along .rest ≡ []) → (isOver (m .turn) ≡ false → m .control .stage ≡ 0 → ⊥)
         → Follows l G D z b′
-    call-follows x d₁ h i j r o =
-        let g = gone-on x in
+    call-follows g d₁ h i j r o =
         quiet-follows l G D z b′ (g .along) j
         (subst (λ (x : Control). Facts l G D z x (g .along .w) (g .along .s)) (sym (k .control))
         (record {
@@ -257,6 +288,9 @@ module _ (l : Grain) (G D : ℕ) (z : Sizes G D) (b : Board) (a : Along l G D z 
         }))
         (λ s. r (ap (λ (i : Control). i .stage) (sym (k .control)) ∙ s))
         (λ p r. o (subst (λ (t : Turn). isOver t ≡ false) (k .turn) p) (ap (λ (i : Control). i .stage) (sym (k .control)) ∙ r))
+
+    book-fed : (g : Goes) → b′ .book ≡ step w (call d) .book
+    book-fed g = g .along .book ∙ ap (λ (v : World). v .book) (g .world)
 
   -- ---- what is told
 
@@ -409,3 +443,207 @@ module _ (l : Grain) (G D : ℕ) (z : Sizes G D) (b : Board) (a : Along l G D z 
             at-rest (v .0) (v .1) (full (c .op)) t (c .condition) o j
             (tells-sync i (v .1) (λ p. absurd (omega (arith, p, told-code (done (full (c .op)) t) (o .turn) ∙ done-code (full (c .op)) t ∙ ap full i ∙ full-sync))))
         go (opening h i j) = absurd (s h)
+
+  -- ---- stages with a call
+
+  -- what follows whether a call was made or none
+  record Ways : Type 0 where
+    same : SameCursor c (m .control) → Stays c (m .control) → made b .size ≡ 0 → Kind (m .control) → (m .control .stage ≡ 6 → ⊥) → (m .control .stage ≡ 21 → ⊥) → Quiet b′
+        → (isOver (m .turn) ≡ false → m .control .stage ≡ 0 → ⊥) → Follows l G D z b′
+    new : NewBatch c (m .control) (made b .size) → Stays c (m .control) → made b .code ≡ 0 → Kind (m .control) → (m .control .stage ≡ 6 → c .stage ≡ 5) → (m .control .stage ≡ 21 → ⊥)
+        → (m .control .stage ≡ 0 → ⊥) → Quiet b′ → (isOver (m .turn) ≡ false → m .control .stage ≡ 0 → ⊥) → Follows l G D z b′
+    owed : c .stage ≡ 6 → made b .code ≡ 0 → Stays c (m .control) → SameCursor c (m .control) → AllOwed (b′ .book .commits)
+    refused-none : (made b .code ≡ 0 → ⊥) → made b .size ≡ 0
+    confirm-none : c .stage ≡ 6 → made b .size ≡ 0
+
+  which-call : callOf (callFor b) (given (b .memory) c) (c .number) ≡ madeCall b 0
+  which-call = sym (made-call b all-at)
+
+  ways-unmade : callOf (callFor b) (given (b .memory) c) (c .number) ≡ none → Still (made b) (given (b .memory) c) → Ways
+  ways-unmade x q =
+      let none-made : madeCall b 0 ≡ none = sym which-call ∙ x in
+      record {
+        same = λ s y r d a₁ a₂ j o. still-follows none-made q (inl (s, refl)) y d (λ t. absurd (a₁ t)) a₂ j o;
+        new = λ s y r d a₁ a₂ a₃ j o.
+            still-follows none-made q (inr (record { size = s .size ∙ q .size; at = s .at; headed = s .headed; step = s .step }, refl)) y d
+            (λ t. absurd (none-some _ (sym x ∙ is-flush (given (b .memory) c) (c .number) (callFor b) (call-flush b (a₁ t))))) a₂ j o;
+        owed = λ s r y t. absurd (none-some _ (sym x ∙ is-confirm (given (b .memory) c) (c .number) (callFor b) (call-confirm b s)));
+        refused-none = λ s. q .size;
+        confirm-none = λ s. q .size;
+      }
+
+  ways-made : (d : Call) → callOf (callFor b) (given (b .memory) c) (c .number) ≡ some d → isOpening d ≡ false → SameEnd (made b) (ends w d) (length (b .memory .batch)) → Ways
+  ways-made d x p q =
+      let some-made : madeCall b 0 ≡ some d = sym which-call ∙ x in
+      record {
+        same = λ s y r e₁ a₁ a₂ j o.
+            call-follows d some-made p q y (goes-by d some-made p q y (inl (subst (SameCursor c) (sym (k .control)) s, r))) e₁ (λ t. absurd (a₁ t)) a₂ j
+            (λ t. rest-none d some-made p q y (subst (SameCursor c) (sym (k .control)) s) r) o;
+        new = λ s y r e₁ a₁ a₂ a₃ j o.
+            call-follows d some-made p q y (goes-by d some-made p q y (inr (subst (λ (i : Control). NewBatch c i (made b .size)) (sym (k .control)) s, r))) e₁
+            (λ t. fenced (a₁ t) r) a₂ j (λ t. absurd (a₃ t)) o;
+        owed = λ s r y t. owes s r (book-fed d some-made p q y (goes-by d some-made p q y (inl (subst (SameCursor c) (sym (k .control)) t, nothing-to s))));
+        refused-none = λ s. q .size ∙ refused-size w d (λ t. s (q .code ∙ t));
+        confirm-none = nothing-to;
+      }
+    where
+      is-the-flush : c .stage ≡ 5 → d ≡ flush (b .memory .batch)
+      is-the-flush s = some-same d (flush (b .memory .batch)) (sym x ∙ is-flush (given (b .memory) c) (c .number) (callFor b) (call-flush b s) ∙ batch-given)
+        where
+          batch-given : some (flush (given (b .memory) c .batch)) ≡ some (flush (b .memory .batch))
+          batch-given = ap (λ (i : List ℕ). some (flush i)) (given-batch (b .memory) c)
+
+      is-the-confirm : c .stage ≡ 6 → d ≡ confirm
+      is-the-confirm s = some-same d confirm (sym x ∙ is-confirm (given (b .memory) c) (c .number) (callFor b) (call-confirm b s))
+
+      allowed : Allowed w (call d)
+      allowed = p ∙ sym (ap not (a .ready))
+
+      fenced : c .stage ≡ 5 → made b .code ≡ 0 → follow (a .s) w (call d) .fenced ≡ nextOf (follow (a .s) w (call d))
+      fenced s r =
+          subst (λ (i : Call). ends w i .code ≡ 0 → follow (a .s) w (call i) .fenced ≡ nextOf (follow (a .s) w (call i))) (sym (is-the-flush s))
+          (flush-fenced (a .s) w (b .memory .batch)) (sym (q .code) ∙ r)
+
+      to-confirm : c .stage ≡ 6 → (ends w confirm .size ≡ 0) × (ends w confirm .figure ≡ a .s .fenced) × (ends w confirm .code ≡ 0)
+      to-confirm s = confirm-told w (a .s) (way-answers G D z w (a .s) (a .way) confirm (subst (λ (i : Call). Allowed w (call i)) (is-the-confirm s) allowed))
+
+      nothing-to : c .stage ≡ 6 → made b .size ≡ 0
+      nothing-to s = q .size ∙ ap (λ (i : Call). ends w i .size) (is-the-confirm s) ∙ to-confirm s .0
+
+      owes : c .stage ≡ 6 → made b .code ≡ 0 → b′ .book ≡ step w (call d) .book → AllOwed (b′ .book .commits)
+      owes s r h =
+          let v : b′ .book ≡ step w (call confirm) .book = h ∙ ap (λ (i : Call). step w (call i) .book) (is-the-confirm s) in
+          let t = stepped w confirm (subst (λ (i : Call). isOpening i ≡ false) (is-the-confirm s) p) (a .ready) (passed-fences l G D z w (length (a .out)) (a .carried)) .book in
+          subst (λ (i : Book). AllOwed (i .commits)) (sym (v ∙ t))
+          (confirm-owes (w .book) (ends w confirm .code) (ends w confirm .figure) (a .s .fenced) (to-confirm s .2) (to-confirm s .1)
+          (all-owed G D z w (a .s) (a .way) (a .ready) (f .fenced s)))
+
+  rest-condition : Kind c → c .stage ≤ 18 → c .condition ≡ 2
+  rest-condition (idle h i) q = i
+  rest-condition (other h i j) q = j
+  rest-condition (sync h i j) q = j
+  rest-condition (opening h i j) q = absurd (omega (arith, h, q))
+
+  module _ (low : c .stage ≤ 18) (ways : Ways) where
+    abbrev st : State
+    st = stateOf (made b .state)
+
+    n₁ : c .stage ≡ 1 → ⊥
+    n₁ = by-kind (f .kind) .0
+
+    -- the operation is over
+    resting : (code figure : ℕ) → SameCursor c (m .control) → Stays c (m .control) → made b .size ≡ 0 → MovesOn m c 0 (c .condition) (done code figure) → Tells b′ → Result
+    resting code figure x y r o t =
+        (ways .same x y r (idle (o .stage-is) (o .condition-is ∙ rest-condition (f .kind) low)) (λ q. omega (arith, o .stage-is, q)) (λ q. omega (arith, o .stage-is, q))
+        (quiet-done b′ code figure (k .turn ∙ o .turn)) (λ p q. done-over code figure (subst (λ (i : Turn). isOver i ≡ false) (o .turn) p)), λ h. t)
+
+    -- it goes on at another stage with nothing new to write
+    passing-on : (i : ℕ) → SameCursor c (m .control) → Stays c (m .control) → made b .size ≡ 0 → MovesOn m c i (c .condition) pass → Kind (m .control) → (i ≡ 6 → ⊥) → (i ≡ 21 → ⊥)
+        → (i ≡ 0 → ⊥) → Result
+    passing-on i x y r o d a₁ a₂ a₃ =
+        (ways .same x y r d (λ q. a₁ (sym (o .stage-is) ∙ q)) (λ q. a₂ (sym (o .stage-is) ∙ q)) (quiet-pass b′ (k .turn ∙ o .turn)) (λ p q. a₃ (sym (o .stage-is) ∙ q)), passing (o .turn))
+
+    called-result : CalledTo c (made b .code) (made b .figure) (made b .size) st m → Result
+    called-result (over x r t q) = go (f .kind)
+      where
+        v : SameCursor c (m .control) × Stays c (m .control)
+        v = over-same c st n₁ m (done 0 (made b .figure)) q
+
+        o : MovesOn m c 0 (c .condition) (done 0 (made b .figure))
+        o = rest-of m c (c .at) (machine.headedAt c st) (c .step) (done 0 (made b .figure)) q
+
+        go : Kind c → Result
+        go (idle h i) = absurd (n h)
+        go (other h i j) = resting 0 (made b .figure) (v .0) (v .1) r o (tells-other i (v .1))
+        go (sync h i j) = resting 0 (made b .figure) (v .0) (v .1) r o (tells-sync i (v .1) (λ g. six (is-six (c .stage))))
+          where
+            six : (c .stage ≡ 6) ⊎ (c .stage ≡ 6 → ⊥) → AllOwed (b′ .book .commits)
+            six (inl g) = ways .owed g x (v .1) (v .0)
+            six (inr g) = absurd (sync-after (c .stage) h low g .1 t)
+        go (opening h i j) = absurd (omega (arith, h, low))
+    called-result (on x t q) = go (f .kind)
+      where
+        v : NewBatch c (m .control) (made b .size) × Stays c (m .control)
+        v = on-new c st n₁ m pass (getD after (c .stage) 0) (made b .figure) (made b .size) q
+
+        o : MovesOn m c (getD after (c .stage) 0) (c .condition) pass
+        o = batch-of m c (c .at) (machine.headedAt c st) (c .step) (getD after (c .stage) 0) (made b .figure) (made b .size) pass q
+
+        going : Kind (m .control) → (getD after (c .stage) 0 ≡ 6 → c .stage ≡ 5) → (getD after (c .stage) 0 ≡ 21 → ⊥) → (getD after (c .stage) 0 ≡ 0 → ⊥) → Result
+        going d a₁ a₂ a₃ =
+            (ways .new (v .0) (v .1) x d (λ g. a₁ (sym (o .stage-is) ∙ g)) (λ g. a₂ (sym (o .stage-is) ∙ g)) (λ g. a₃ (sym (o .stage-is) ∙ g)) (quiet-pass b′ (k .turn ∙ o .turn))
+            (λ p g. a₃ (sym (o .stage-is) ∙ g)), passing (o .turn))
+
+        go : Kind c → Result
+        go (idle h i) = absurd (n h)
+        go (other h i j) =
+            let s = other-after (c .stage) h low in
+            let y = other-not (getD after (c .stage) 0) s in
+            going (to-other m c (getD after (c .stage) 0) pass o s i j) (λ g. absurd (y .2 g)) (y .5) (y .0)
+        go (sync h i j) = six (is-six (c .stage))
+          where
+            six : (c .stage ≡ 6) ⊎ (c .stage ≡ 6 → ⊥) → Result
+            six (inl g) = absurd (t (ap (λ (r : ℕ). getD after r 0) g ∙ after-six) (ways .confirm-none g))
+            six (inr g) =
+                let s = sync-after (c .stage) h low g in
+                let y = sync-not (getD after (c .stage) 0) (s .0) in
+                going (to-sync m c (getD after (c .stage) 0) pass o (s .0) i j) (s .2) (y .4) (y .0)
+        go (opening h i j) = absurd (omega (arith, h, low))
+    called-result (room x t q) = go (f .kind)
+      where
+        v : SameCursor c (m .control) × Stays c (m .control)
+        v = room-same c st n₁ m pass 7 (st .start) q
+
+        o : MovesOn m c 7 (c .condition) pass
+        o = room-of m c 7 (st .start) pass q
+
+        go : Kind c → Result
+        go (idle h i) = absurd (n h)
+        go (other h i j) =
+            passing-on 7 (v .0) (v .1) (ways .refused-none x) o (to-other m c 7 pass o (unfold otherStage in refl) i j) (λ p. omega (arith, p)) (λ p. omega (arith, p)) (λ p. omega (arith, p))
+        go (sync h i j) =
+            passing-on 7 (v .0) (v .1) (ways .refused-none x) o (to-sync m c 7 pass o (unfold syncStage in refl) i j) (λ p. omega (arith, p)) (λ p. omega (arith, p)) (λ p. omega (arith, p))
+        go (opening h i j) = absurd (omega (arith, h, low))
+    called-result (fence x t q) = go (f .kind)
+      where
+        v : SameCursor c (m .control) × Stays c (m .control)
+        v = stage-same c st n₁ m pass 8 q
+
+        o : MovesOn m c 8 (c .condition) pass
+        o = stage-of m c 8 pass q
+
+        go : Kind c → Result
+        go (idle h i) = absurd (n h)
+        go (other h i j) =
+            passing-on 8 (v .0) (v .1) (ways .refused-none x) o (to-other m c 8 pass o (unfold otherStage in refl) i j) (λ p. omega (arith, p)) (λ p. omega (arith, p)) (λ p. omega (arith, p))
+        go (sync h i j) =
+            passing-on 8 (v .0) (v .1) (ways .refused-none x) o (to-sync m c 8 pass o (unfold syncStage in refl) i j) (λ p. omega (arith, p)) (λ p. omega (arith, p)) (λ p. omega (arith, p))
+        go (opening h i j) = absurd (omega (arith, h, low))
+    called-result (refuse figure x q) = go (f .kind)
+      where
+        v : SameCursor c (m .control) × Stays c (m .control)
+        v = stage-same c st n₁ m (done (made b .code) figure) 0 q
+
+        o : MovesOn m c 0 (c .condition) (done (made b .code) figure)
+        o = stage-of m c 0 (done (made b .code) figure) q
+
+        go : Kind c → Result
+        go (idle h i) = absurd (n h)
+        go (other h i j) = resting (made b .code) figure (v .0) (v .1) (ways .refused-none x) o (tells-other i (v .1))
+        go (sync h i j) =
+            resting (made b .code) figure (v .0) (v .1) (ways .refused-none x) o
+            (tells-sync i (v .1) (λ g. absurd (x (sym (told-code (done (made b .code) figure) (o .turn) ∙ done-code (made b .code) figure) ∙ g))))
+        go (opening h i j) = absurd (omega (arith, h, low))
+
+  -- ---- either
+
+  pub calling-next : Result
+  calling-next = go (decLe (c .stage) 18)
+    where
+      by-made : Made w (given (b .memory) c) (c .number) (callFor b) → Ways
+      by-made (unmade x q) = ways-unmade x (unfold made in q)
+      by-made (makings.made d x p q) = ways-made d x p (subst (SameEnd (made b) (ends w d)) (ap length (given-batch (b .memory) c)) (unfold made in q))
+
+      go : Dec (c .stage ≤ 18) → Result
+      go (yes h) = called-result h (by-made makes-which) (follows-called b h)
+      go (no h) = uncalled-result (omega arith) (follows-uncalled b (omega arith))

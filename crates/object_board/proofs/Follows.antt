@@ -48,7 +48,7 @@ use Rattle.object_board.proofs.Ways.{Way, way-answers, way-running, all
 use Rattle.object_board.proofs.Along.{cursorOf, first, SameCursor, NewBatch, Cursors, Copies, Ahead, Along, Out, all-out, unmade-along, made-along}
 use Rattle.object_board.proofs.MoveLaws.{CalledTo, over, on, room, fence, no, UncalledTo, load-log, load-area, opens, ends as endsAll, settles, again, gives-up, gone}
 use Rattle.object_board.proofs.Stages.{syncStage, otherStage, isOther, sync-after, other-after, not-opening, no-call, flush-call, confirm-call, sync-not, other-not, other-op}
-use Rattle.object_board.proofs.Turns.{turnOf, asksFor, handedTo, handed-next, piece-is, hand-kept, movesTo, Calls, calls-next, made-call, follows-called, follows-uncalled, Stays, called-cursors, uncalled-cursors}
+use Rattle.object_board.proofs.Turns.{turnOf, asksFor, handedTo, handed-next, piece-is, hand-kept, movesTo, Calls, calls-next, made-call, follows-called, follows-uncalled, Stays}
 
 -- what the driver has been asked to do, as motions
 unfoldable pub dueOf : Board → List Motion

@@ -141,28 +141,21 @@ module _ (c : Control) (st : State) (n : c .stage ≡ 1 → ⊥) where
   unfolding headedAt
   headed-same = rw (ne-eqb (c .stage) 1 n)
 
-  pub called-cursors : (code figure size : ℕ) (m : Moved) → (( code ≡ 0 → ⊥) → size ≡ 0) → CalledTo c code figure size st m → Cursors c (m .control) size code × Stays c (m .control)
-  unfolding withStage withCursor withBatch withRoom moved
-  called-cursors code figure size m z (over e s a q) = (
-    inl (record { size = rw q; at = rw q; headed = rw q headed-same; step = rw q }, s),
-    record { landing = rw q; op = rw q },
-  )
-  called-cursors code figure size m z (on e a q) = (
-    inr (record { size = rw q; at = rw q; headed = rw q headed-same; step = rw q }, e),
-    record { landing = rw q; op = rw q },
-  )
-  called-cursors code figure size m z (room x f q) = (
-    inl (record { size = rw q; at = rw q; headed = rw q; step = rw q }, z x),
-    record { landing = rw q; op = rw q },
-  )
-  called-cursors code figure size m z (fence x f q) = (
-    inl (record { size = rw q; at = rw q; headed = rw q; step = rw q }, z x),
-    record { landing = rw q; op = rw q },
-  )
-  called-cursors code figure size m z (no t x q) = (
-    inl (record { size = rw q; at = rw q; headed = rw q; step = rw q }, z x),
-    record { landing = rw q; op = rw q },
-  )
+  pub over-same : (m : Moved) (t : Turn) → m ≡ moved (withStage (gone c st) 0) t → SameCursor c (m .control) × Stays c (m .control)
+  unfolding withStage withCursor moved
+  over-same m t q = (record { size = rw q; at = rw q; headed = rw q headed-same; step = rw q }, record { landing = rw q; op = rw q })
+
+  pub on-new : (m : Moved) (t : Turn) (n figure size : ℕ) → m ≡ moved (withBatch (gone c st) n figure size) t → NewBatch c (m .control) size × Stays c (m .control)
+  unfolding withBatch withCursor moved
+  on-new m t n figure size q = (record { size = rw q; at = rw q; headed = rw q headed-same; step = rw q }, record { landing = rw q; op = rw q })
+
+  pub room-same : (m : Moved) (t : Turn) (n from : ℕ) → m ≡ moved (withRoom c n from) t → SameCursor c (m .control) × Stays c (m .control)
+  unfolding withRoom moved
+  room-same m t n from q = (record { size = rw q; at = rw q; headed = rw q; step = rw q }, record { landing = rw q; op = rw q })
+
+  pub stage-same : (m : Moved) (t : Turn) (n : ℕ) → m ≡ moved (withStage c n) t → SameCursor c (m .control) × Stays c (m .control)
+  unfolding withStage moved
+  stage-same m t n q = (record { size = rw q; at = rw q; headed = rw q; step = rw q }, record { landing = rw q; op = rw q })
 
 pub uncalled-cursors : (c : Control) (a b : ℕ) (m : Moved) → UncalledTo c a b m → Cursors c (m .control) 0 0 × Stays c (m .control)
 unfolding withStage withCondition moved
