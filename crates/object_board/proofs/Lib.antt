@@ -9,3 +9,4 @@ pub mod Stages
 pub mod Turns
 pub mod Follows
 pub mod Calling
+pub mod Good
