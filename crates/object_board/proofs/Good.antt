@@ -9,6 +9,7 @@ use native.Mathlib.Omega.{arith}
 use lib.Dec.{eqb, leb, ltb}
 use lib.ListN.{length, take, drop, length-append}
 use borrow.Author.Tests.{eqb-true, eqb-false, ne-eqb}
+use Rattle.model.specs.Bytes.{part}
 use Rattle.model.specs.State.{stateOf}
 use Rattle.model.specs.Book.{Book}
 use Rattle.model.specs.Crash.{Memory}
@@ -18,14 +19,14 @@ use Rattle.theorems.proofs.invariant.Invariant.{Sizes}
 use Rattle.object.specs.Medium.{Grain, Medium}
 use Rattle.object.specs.Order.{Motion, motions, moved}
 use Rattle.object.specs.Runner.{Carried}
-use Rattle.object_runner.specs.Moves.{landingOf}
+use Rattle.object_runner.specs.Moves.{landingOf, Hands}
 use Rattle.object_machine.specs.declared.Control.{Control}
 use Rattle.object_machine.specs.declared.Turn.{Turn}
 use Rattle.object_machine.specs.Moves.{done, load, pass}
 use Rattle.object_machine.specs.Next.{Lent}
 use Rattle.object_board.specs.Board.{Board, inHand, isOver, loadsLog, loadsArea, next, withMedium, Tells}
 use Rattle.object_board.proofs.Ways.{Way, way-running}
-use Rattle.object_board.proofs.Along.{first, Along, all-out}
+use Rattle.object_board.proofs.Along.{cursorOf, first, Copies, Along, all-out}
 use Rattle.object_board.proofs.Follows.{dueOf, aheadOf, Kind, Facts, Follows, handing-next}
 use Rattle.object_board.proofs.Calling.{calling-next}
 
@@ -73,7 +74,6 @@ module _ (l : Grain) (G D : ℕ) (z : Sizes G D) where
     pub under : Under b
     pub kept : Kept b
     pub shut : (b .control .condition ≡ 1) ⊎ (b .control .condition ≡ 3)
-    pub none : b .control .stage ≡ 0 → Unit {0}
     pub left : (b .control .stage ≡ 0 → ⊥) → (b .control .condition ≡ 1) × (b .control .size ≤ b .control .at)
     pub waiting : Waiting b
 
@@ -143,3 +143,49 @@ module _ (l : Grain) (G D : ℕ) (z : Sizes G D) where
   kept b (behind k) = k .kept
   kept b (loaded k) = k .kept
   kept b (follows f) = follows-kept b f
+
+  -- ---- boards that differ in nothing that matters
+
+  pub under-like : (b b′ : Board) → b′ .homes ≡ b .homes → b′ .book ≡ b .book → b′ .medium ≡ b .medium → Under b → Under b′
+  under-like b b′ e₁ e₂ e₃ k =
+      record { w = k .w; s = k .s; way = k .way; homes = e₁ ∙ k .homes; book = e₂ ∙ k .book; many = k .many; medium = e₃ ∙ k .medium; carried = k .carried }
+
+  pub kept-like : (b b′ : Board) → b′ .memory ≡ b .memory → b′ .control .landing ≡ b .control .landing → Kept b → Kept b′
+  kept-like b b′ e₁ e₂ k = record { sized = subst Sized (sym e₁) (k .sized); landing = e₂ ∙ k .landing }
+
+  in-hand-like : (b b′ : Board) → b′ .control ≡ b .control → b′ .memory ≡ b .memory → inHand b′ ≡ inHand b
+  unfolding inHand
+  in-hand-like b b′ e f = ap (λ (x : Control). part (b′ .memory .batch) 0 (x .size)) e ∙ ap (λ (x : Lent). part (x .batch) 0 (b .control .size)) f
+
+  pub along-like : (b b′ : Board) → b′ .control ≡ b .control → b′ .memory ≡ b .memory → b′ .homes ≡ b .homes → b′ .book ≡ b .book → b′ .medium ≡ b .medium
+      → Along l G D z b → Along l G D z b′
+  along-like b b′ e₁ e₂ e₃ e₄ e₅ a =
+      record {
+        w = a .w;
+        s = a .s;
+        way = a .way;
+        ready = a .ready;
+        homes = e₃ ∙ a .homes;
+        copies = subst (λ (m : Lent). Copies l G D z m (a .w)) (sym e₂) (a .copies);
+        book = e₄ ∙ a .book;
+        landing = ap (λ (c : Control). c .landing) e₁ ∙ a .landing;
+        out = a .out;
+        rest = a .rest;
+        headed = a .headed;
+        split = a .split;
+        medium = e₅ ∙ a .medium;
+        hands =
+            subst (λ (c : Control). Hands l G D (stateOf (a .w .state) .next) (inHand b′) (a .w .log) (cursorOf c) (a .rest) (a .headed)) (sym e₁)
+            (subst (λ (x : List ℕ). Hands l G D (stateOf (a .w .state) .next) x (a .w .log) (cursorOf (b .control)) (a .rest) (a .headed)) (sym (in-hand-like b b′ e₁ e₂))
+            (a .hands));
+        ahead = a .ahead;
+        fits =
+            subst (λ (c : Control). c .size ≤ length (b′ .memory .batch)) (sym e₁) (subst (λ (m : Lent). b .control .size ≤ length (m .batch)) (sym e₂) (a .fits));
+        carried = a .carried;
+      }
+
+  pub world-like : (b b′ : Board) (e₁ : b′ .control ≡ b .control) (e₂ : b′ .memory ≡ b .memory) (e₃ : b′ .homes ≡ b .homes) (e₄ : b′ .book ≡ b .book) (e₅ : b′ .medium ≡ b .medium)
+      (a : Along l G D z b) → (along-like b b′ e₁ e₂ e₃ e₄ e₅ a .w ≡ a .w) × (along-like b b′ e₁ e₂ e₃ e₄ e₅ a .s ≡ a .s) × (along-like b b′ e₁ e₂ e₃ e₄ e₅ a .rest ≡ a .rest)
+      × (along-like b b′ e₁ e₂ e₃ e₄ e₅ a .out ≡ a .out)
+  unfolding along-like
+  world-like b b′ e₁ e₂ e₃ e₄ e₅ a = (refl, refl, refl, refl)
