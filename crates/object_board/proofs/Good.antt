@@ -146,18 +146,18 @@ module _ (l : Grain) (G D : ℕ) (z : Sizes G D) where
 
   -- ---- boards that differ in nothing that matters
 
-  pub under-like : (b b′ : Board) → b′ .homes ≡ b .homes → b′ .book ≡ b .book → b′ .medium ≡ b .medium → Under b → Under b′
+  unfoldable pub under-like : (b b′ : Board) → b′ .homes ≡ b .homes → b′ .book ≡ b .book → b′ .medium ≡ b .medium → Under b → Under b′
   under-like b b′ e₁ e₂ e₃ k =
       record { w = k .w; s = k .s; way = k .way; homes = e₁ ∙ k .homes; book = e₂ ∙ k .book; many = k .many; medium = e₃ ∙ k .medium; carried = k .carried }
 
   pub kept-like : (b b′ : Board) → b′ .memory ≡ b .memory → b′ .control .landing ≡ b .control .landing → Kept b → Kept b′
   kept-like b b′ e₁ e₂ k = record { sized = subst Sized (sym e₁) (k .sized); landing = e₂ ∙ k .landing }
 
-  in-hand-like : (b b′ : Board) → b′ .control ≡ b .control → b′ .memory ≡ b .memory → inHand b′ ≡ inHand b
+  pub in-hand-like : (b b′ : Board) → b′ .control ≡ b .control → b′ .memory ≡ b .memory → inHand b′ ≡ inHand b
   unfolding inHand
   in-hand-like b b′ e f = ap (λ (x : Control). part (b′ .memory .batch) 0 (x .size)) e ∙ ap (λ (x : Lent). part (x .batch) 0 (b .control .size)) f
 
-  pub along-like : (b b′ : Board) → b′ .control ≡ b .control → b′ .memory ≡ b .memory → b′ .homes ≡ b .homes → b′ .book ≡ b .book → b′ .medium ≡ b .medium
+  unfoldable pub along-like : (b b′ : Board) → b′ .control ≡ b .control → b′ .memory ≡ b .memory → b′ .homes ≡ b .homes → b′ .book ≡ b .book → b′ .medium ≡ b .medium
       → Along l G D z b → Along l G D z b′
   along-like b b′ e₁ e₂ e₃ e₄ e₅ a =
       record {

@@ -10,3 +10,4 @@ pub mod Turns
 pub mod Follows
 pub mod Calling
 pub mod Good
+pub mod Happens
