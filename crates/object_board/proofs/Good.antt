@@ -97,7 +97,7 @@ module _ (l : Grain) (G D : ℕ) (z : Sizes G D) where
     loaded : Loaded b → Good b
     follows : Follows l G D z b → Good b
 
-  take-front : (xs ys : List Motion) → take (length xs) (xs ++ ys) ≡ xs
+  pub take-front : (xs ys : List Motion) → take (length xs) (xs ++ ys) ≡ xs
   take-front [] ys = refl
   take-front (x ∷ xs) ys = ap {B = List Motion} (λ r. x ∷ r) (take-front xs ys)
 

@@ -23,15 +23,16 @@ use Rattle.object.specs.Runner.{Carried}
 use Rattle.object_runner.specs.Moves.{landingOf}
 use Rattle.object_machine.specs.declared.Control.{Control}
 use Rattle.object_machine.specs.declared.Turn.{Turn}
-use Rattle.object_machine.specs.Control.{fresh}
+use Rattle.object_machine.specs.Control.{failed, fresh, withCondition}
 use Rattle.object_machine.specs.Moves.{done, load, pass}
-use Rattle.object_machine.specs.Next.{Lent}
-use Rattle.object_board.specs.Board.{Board, Happening, asks, begins, aborts, reads, goes, breaks, cuts, inHand, pieceOf, isOver, loadsLog, loadsArea, cutTo, next, withMedium, refusedTo, carried, copied, keeps, goesOn, happens, Started, Driven, Leaves, Right, Tells}
+use Rattle.object_machine.specs.Moves as machine
+use Rattle.object_machine.specs.Next.{Lent, goes as goesBy, stays, fails}
+use Rattle.object_board.specs.Board.{Board, Happening, asks, begins, aborts, reads, goes, breaks, cuts, inHand, pieceOf, isOver, loadsLog, loadsArea, cutTo, fedBy, madeCall, left, withBook, next, withMedium, refusedTo, attempted, carried, copied, keeps, goesOn, happens, Started, Driven, Leaves, Right, Tells}
 use Rattle.object_board.proofs.HandLaws.{moved-append}
 use Rattle.object_board.proofs.Ways.{Way, way-running, Lost, loses-way}
 use Rattle.object_board.proofs.Along.{first, Along, all-out}
 use Rattle.object_board.proofs.Follows.{dueOf, aheadOf, Kind, Facts, Follows}
-use Rattle.object_board.proofs.Good.{goes-next, Sized, Under, Kept, Waiting, rests, asked, loads, Behind, Loaded, Good, behind, loaded, follows, under, kept, under-like, kept-like, along-like, world-like}
+use Rattle.object_board.proofs.Good.{goes-next, take-front, Sized, Under, Kept, Waiting, rests, asked, loads, Behind, Loaded, Good, behind, loaded, follows, under, kept, under-like, kept-like, along-like, world-like}
 
 module _ (l : Grain) (G D : ℕ) (z : Sizes G D) where
   -- ---- a task is told something, and nothing else happens
@@ -212,3 +213,87 @@ module _ (l : Grain) (G D : ℕ) (z : Sizes G D) where
 
       ahead-stage : (b : Board) → (b .control .stage ≡ 0 → ⊥) → aheadOf b .control .stage ≡ 0 → ⊥
       ahead-stage b h = (unfold withMedium in h)
+
+  -- ---- the driver fails
+
+  record Fails (b b′ : Board) (error : ℕ) : Type 0 where
+    homes : b′ .homes ≡ b .homes
+    control : b′ .control ≡ withCondition (b .control) failed error
+    memory : b′ .memory ≡ b .memory
+    turn : b′ .turn ≡ done 65 error
+    told : b′ .told ≡ done 65 error
+    medium : b′ .medium ≡ b .medium
+    book : b′ .book ≡ b .book
+
+  fails-next : (b : Board) (e : ℕ) → Fails b (next b (suc e)) (suc e)
+  unfolding next left withBook madeCall fedBy goesBy stays fails machine.moved
+  fails-next b e =
+      let q : eqb (suc e) 0 ≡ false = ne-eqb (suc e) 0 (λ h. omega (arith, h)) in
+      record { homes = refl; control = rw q; memory = rw q; turn = rw q; told = rw q; medium = refl; book = rw q }
+
+  failed-is : (c : Control) (e : ℕ) → (withCondition c failed e .condition ≡ 3) × (withCondition c failed e .stage ≡ 0) × (withCondition c failed e .landing ≡ c .landing)
+  unfolding withCondition
+  failed-is c e = (refl, refl, refl)
+
+  along-under : (b : Board) → Along l G D z b → Under l G D z b
+  along-under b a =
+      record {
+        w = a .w;
+        s = a .s;
+        way = a .way;
+        homes = a .homes;
+        book = a .book;
+        many = length (a .out);
+        medium = a .medium ∙ ap (moved (first (a .w))) (sym (take-front l G D z (a .out) (a .rest)) ∙ ap (take (length (a .out))) (sym (a .split)));
+        carried = a .carried;
+      }
+
+  attempts-none : (b : Board) → (b .turn .kind ≡ 1 → ⊥) → attempted b ≡ b .medium
+  unfolding attempted
+  attempts-none b n = rw (ne-eqb (b .turn .kind) 1 n)
+
+  attempts-one : (b : Board) → b .turn .kind ≡ 1 → attempted b ≡ moved (b .medium) (dueOf b)
+  unfolding attempted dueOf moved moves
+  attempts-one b e = rw (eq-eqb (b .turn .kind) 1 e)
+
+  pass-kind : (b : Board) → b .turn ≡ pass → b .turn .kind ≡ 1 → ⊥
+  unfolding pass
+  pass-kind b e h = omega (arith, h, ap (λ (t : Turn). t .kind) e)
+
+  load-kind : (b : Board) (area n : ℕ) → b .turn ≡ load area n → b .turn .kind ≡ 1 → ⊥
+  unfolding load
+  load-kind b area n e h = omega (arith, h, ap (λ (t : Turn). t .kind) e)
+
+  attempted-under : (b : Board) → Good l G D z b → isOver (b .turn) ≡ false → Under l G D z (withMedium b (attempted b) (b .memory) (b .book))
+  unfolding withMedium
+  attempted-under b (behind k) o = under-like l G D z b (withMedium b (attempted b) (b .memory) (b .book)) refl refl (attempts-none b (go (k .waiting))) (k .under)
+    where
+      go : Waiting l G D z b → b .turn .kind ≡ 1 → ⊥
+      go (rests e q) = absurd (false≢true (sym o ∙ q))
+      go (asked e q t) = pass-kind b t
+      go (loads n e q t) = load-kind b 0 n t
+  attempted-under b (loaded k) o =
+      under-like l G D z b (withMedium b (attempted b) (b .memory) (b .book)) refl refl (attempts-none b (load-kind b 1 (k .turn .0) (k .turn .1))) (k .under)
+  attempted-under b (follows f) o = go (eqb (b .turn .kind) 1) refl
+    where
+      go : (d : Bool) → eqb (b .turn .kind) 1 ≡ d → Under l G D z (withMedium b (attempted b) (b .memory) (b .book))
+      go true e =
+          under-like l G D z (aheadOf b) (withMedium b (attempted b) (b .memory) (b .book)) refl refl (attempts-one b (eqb-true (b .turn .kind) 1 e)) (along-under (aheadOf b) (f .along))
+      go false e =
+          under-like l G D z b (withMedium b (attempted b) (b .memory) (b .book)) refl refl (attempts-none b (eqb-false (b .turn .kind) 1 e)) (under l G D z b (follows f))
+
+  pub breaks-good : (b : Board) → Good l G D z b → isOver (b .turn) ≡ false → (error n : ℕ)
+      → Good l G D z (happens l b (breaks error) n) × ((happens l b (breaks error) n .told ≡ done 65 (suc error)) × (happens l b (breaks error) n .control .condition ≡ failed))
+  unfolding happens withMedium
+  breaks-good b g o error n =
+      let b₁ : Board = withMedium b (attempted b) (b .memory) (b .book) in
+      let k = fails-next b₁ error in
+      let c = failed-is (b .control) (suc error) in
+      (behind
+      (record {
+        under = under-like l G D z b₁ (next b₁ (suc error)) (k .homes) (k .book) (k .medium) (attempted-under b g o);
+        kept = kept-like l G D z b (next b₁ (suc error)) (k .memory) (ap (λ (i : Control). i .landing) (k .control) ∙ c .2) (kept l G D z b g);
+        shut = inr (ap (λ (i : Control). i .condition) (k .control) ∙ c .0);
+        left = λ q. absurd (q (ap (λ (i : Control). i .stage) (k .control) ∙ c .1));
+        waiting = rests (ap (λ (i : Control). i .stage) (k .control) ∙ c .1) (ap isOver (k .turn) ∙ over-done 65 (suc error));
+      }), (k .told, ap (λ (i : Control). i .condition) (k .control) ∙ c .0))
