@@ -60,12 +60,12 @@ pub done-over : (code figure : ℕ) → isOver (done code figure) ≡ false → 
 unfolding isOver done
 done-over code figure h = false≢true (sym h)
 
-done-code : (code figure : ℕ) → done code figure .code ≡ code
+pub done-code : (code figure : ℕ) → done code figure .code ≡ code
 unfolding done
 done-code code figure = refl
 
 -- a refused call writes nothing
-refused-size : (w : World) (c : Call) → (ends w c .code ≡ 0 → ⊥) → ends w c .size ≡ 0
+pub refused-size : (w : World) (c : Call) → (ends w c .code ≡ 0 → ⊥) → ends w c .size ≡ 0
 refused-size w c n = subst (λ (o : Outcome). (o .code ≡ 0 → ⊥) → o .size ≡ 0) (sym (ends-row w c)) (go (rowOf w c .answer)) n
   where
     go : (k : ℕ) → (outcome (rowOf w c .given) k (rowOf w c .effect) .code ≡ 0 → ⊥) → outcome (rowOf w c .given) k (rowOf w c .effect) .size ≡ 0
@@ -96,7 +96,7 @@ call-not-one : (b : Board) → (b .control .stage ≡ 1 → ⊥) → callFor b �
 unfolding callFor
 call-not-one b n = not-opening (b .control) (stateOf (b .memory .state)) (homesIn (length (b .memory .area))) n
 
-call-none : (b : Board) → 19 ≤ b .control .stage → callFor b ≡ 0
+pub call-none : (b : Board) → 19 ≤ b .control .stage → callFor b ≡ 0
 unfolding callFor
 call-none b l = no-call (b .control) (stateOf (b .memory .state)) (homesIn (length (b .memory .area))) l
 
@@ -116,11 +116,11 @@ is-confirm : (g : Given) (n k : ℕ) → k ≡ 6 → callOf k g n ≡ some confi
 unfolding callOf
 is-confirm g n k e = rw e
 
-is-none : (g : Given) (n k : ℕ) → k ≡ 0 → callOf k g n ≡ none
+pub is-none : (g : Given) (n k : ℕ) → k ≡ 0 → callOf k g n ≡ none
 unfolding callOf
 is-none g n k e = rw e
 
-still-none : (g : Given) (n k : ℕ) → k ≡ 0 → Still (makes k g n) g
+pub still-none : (g : Given) (n k : ℕ) → k ≡ 0 → Still (makes k g n) g
 unfolding makes roomCall nothing refused
 still-none g n k e = rw e (record { size = refl; log = refl; area = refl; state = refl; newest = refl; batch = refl })
 
@@ -130,7 +130,7 @@ pub record MovesOn (m : Moved) (c : Control) (stage condition : ℕ) (t : Turn) 
   pub op : m .control .op ≡ c .op
   pub turn : m .turn ≡ t
 
-stage-of : (m : Moved) (c : Control) (n : ℕ) (t : Turn) → m ≡ machine.moved (withStage c n) t → MovesOn m c n (c .condition) t
+pub stage-of : (m : Moved) (c : Control) (n : ℕ) (t : Turn) → m ≡ machine.moved (withStage c n) t → MovesOn m c n (c .condition) t
 unfolding machine.moved withStage
 stage-of m c n t e = record { stage-is = rw e; condition-is = rw e; op = rw e; turn = rw e }
 
@@ -142,7 +142,7 @@ open-of : (m : Moved) (c : Control) (t : Turn) → m ≡ machine.moved (withCond
 unfolding machine.moved withCondition
 open-of m c t e = record { stage-is = rw e; condition-is = rw e; op = rw e; turn = rw e }
 
-batch-of : (m : Moved) (c : Control) (at headed step n figure size : ℕ) (t : Turn) → m ≡ machine.moved (withBatch (withCursor c at headed step) n figure size) t
+pub batch-of : (m : Moved) (c : Control) (at headed step n figure size : ℕ) (t : Turn) → m ≡ machine.moved (withBatch (withCursor c at headed step) n figure size) t
     → MovesOn m c n (c .condition) t
 unfolding machine.moved withBatch withCursor
 batch-of m c at headed step n figure size t e = record { stage-is = rw e; condition-is = rw e; op = rw e; turn = rw e }
@@ -186,11 +186,11 @@ confirm-owes : (b : Book) (code figure mark : ℕ) → code ≡ 0 → figure ≡
 unfolding fedBy feed withCommits
 confirm-owes b code figure mark e g h = rw (e, g) h
 
-given-batch : (m : Lent) (c : Control) → given m c .batch ≡ m .batch
+pub given-batch : (m : Lent) (c : Control) → given m c .batch ≡ m .batch
 unfolding given
 given-batch m c = refl
 
-given-same : (m : Lent) (c : Control) (log area state newest : List ℕ) → m .log ≡ log → m .area ≡ area → m .state ≡ state → m .newest ≡ newest
+pub given-same : (m : Lent) (c : Control) (log area state newest : List ℕ) → m .log ≡ log → m .area ≡ area → m .state ≡ state → m .newest ≡ newest
     → given m c ≡ lentAll log area state newest (m .block) (m .batch) (c .writer) (c .home)
 unfolding given
 given-same m c log area state newest e₁ e₂ e₃ e₄ = rw (e₁, e₂, e₃, e₄)

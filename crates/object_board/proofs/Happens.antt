@@ -140,7 +140,7 @@ module _ (l : Grain) (G D : ℕ) (z : Sizes G D) where
       }
 
   -- a board with nothing written since
-  lost-under : (b b′ : Board) (chosen : ℕ → Bool) (k : Losing b chosen) → b′ .homes ≡ D → b′ .book ≡ cutTo (k .commits) (b .book) → b′ .medium ≡ loses l chosen (b .medium) → Under l G D z b′
+  pub lost-under : (b b′ : Board) (chosen : ℕ → Bool) (k : Losing b chosen) → b′ .homes ≡ D → b′ .book ≡ cutTo (k .commits) (b .book) → b′ .medium ≡ loses l chosen (b .medium) → Under l G D z b′
   lost-under b b′ chosen k e₁ e₂ e₃ =
       record {
         w = k .w;
@@ -189,7 +189,7 @@ module _ (l : Grain) (G D : ℕ) (z : Sizes G D) where
 
   -- ---- an open store goes on
 
-  load-none : (b : Board) → loadsLog (b .turn) ≡ false → loadsArea (b .turn) ≡ false → (chosen : ℕ → Bool) (n : ℕ)
+  pub load-none : (b : Board) → loadsLog (b .turn) ≡ false → loadsArea (b .turn) ≡ false → (chosen : ℕ → Bool) (n : ℕ)
       → happens l b (goes chosen) n ≡ next (aheadOf b) 0
   unfolding happens goesOn carried copied keeps withMedium dueOf moved moves
   load-none b e f chosen n = rw (e, f) (go (eqb (b .turn .kind) 1) (eqb (b .turn .kind) 2))

@@ -11,3 +11,4 @@ pub mod Follows
 pub mod Calling
 pub mod Good
 pub mod Happens
+pub mod Loads

@@ -190,3 +190,22 @@ module _ (w : World) (block batch : List ℕ) (v home n : ℕ) where
   made-by (suc (suc (suc (suc (suc (suc (suc (suc (suc (suc (suc zero))))))))))) h = made (trim batch) refl refl (trim-made w block batch v home)
   made-by (suc (suc (suc (suc (suc (suc (suc (suc (suc (suc (suc (suc zero)))))))))))) h = unmade refl (refused-still given 68)
   made-by (suc (suc (suc (suc (suc (suc (suc (suc (suc (suc (suc (suc (suc k))))))))))))) h = beyond _ (omega arith)
+
+-- an opening, lent the copies that the loads have filled
+pub open-made : (w : World) (state newest block batch : List ℕ) (v home n : ℕ)
+    → SameEnd (makes 1 (lentAll (w .memory .log) (w .memory .area) state newest block batch v home) n) (ends w (opening state newest batch)) (length batch)
+unfolding makes writersCall opens besideAll ends openCall loaded
+open-made w state newest block batch v home n =
+    let long : length (ends w (opening state newest batch) .batch) ≡ length batch = outcome-room (loaded w state newest batch) _ _ in
+    record {
+      code = refl;
+      figure = refl;
+      size = refl;
+      log = refl;
+      area = refl;
+      state = refl;
+      newest = refl;
+      bytes = refl;
+      room = long;
+      within = omega (arith, long);
+    }

@@ -25,7 +25,7 @@ use Rattle.object_machine.specs.declared.Control.{Control}
 use Rattle.object_machine.specs.declared.Turn.{Turn}
 use Rattle.object_machine.specs.declared.Moved.{Moved}
 use Rattle.object_machine.specs.Control.{withCursor, withStage, withBatch, withCondition, withRoom}
-use Rattle.object_machine.specs.Moves.{moved, headedAt, called, uncalled}
+use Rattle.object_machine.specs.Moves.{moved, load, headedAt, called, uncalled}
 use Rattle.object_machine.specs.Next.{Lent, lentTo, goes as goesBy, stays, handsOut, handed, given, follows, holderFor, leftBy, onward}
 use Rattle.object_board.specs.Board.{Board, inHand, pieceOf, callOf, fedBy, handing, callFor, made, madeCall, left, withBook, next}
 use Rattle.object_board.proofs.Along.{cursorOf, SameCursor, NewBatch, Cursors}
@@ -166,3 +166,12 @@ uncalled-cursors c a b m (ends t e q) = (inl (record { size = rw q; at = rw q; h
 uncalled-cursors c a b m (settles e q) = (inl (record { size = rw q; at = rw q; headed = rw q; step = rw q }, refl), record { landing = rw q; op = rw q })
 uncalled-cursors c a b m (again e q) = (inl (record { size = rw q; at = rw q; headed = rw q; step = rw q }, refl), record { landing = rw q; op = rw q })
 uncalled-cursors c a b m (gives-up t e q) = (inl (record { size = rw q; at = rw q; headed = rw q; step = rw q }, refl), record { landing = rw q; op = rw q })
+
+-- the loads of an opening
+pub moves-log : (b : Board) → b .control .stage ≡ 19 → movesTo b ≡ moved (withStage (b .control) 20) (load 0 (length (b .memory .log)))
+unfolding follows uncalled
+moves-log b e = rw e
+
+pub moves-area : (b : Board) → b .control .stage ≡ 20 → movesTo b ≡ moved (withStage (b .control) 1) (load 1 (length (b .memory .area)))
+unfolding follows uncalled
+moves-area b e = rw e
