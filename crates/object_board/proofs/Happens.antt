@@ -98,11 +98,11 @@ module _ (l : Grain) (G D : ℕ) (z : Sizes G D) where
   unfolding loses
   lost-whole chosen m = refl
 
-  none-carried : (w : World) → w .pending ≡ [] → w .passed ≡ 0 → Carried l w 0
+  pub none-carried : (w : World) → w .pending ≡ [] → w .passed ≡ 0 → Carried l w 0
   unfolding motions crash.fences
   none-carried w e q = record { front = []; more = []; split = e; confirmed = omega (arith, q); out = omega arith }
 
-  none-taken : (m : Medium) (ms : List Motion) → moved m (take 0 ms) ≡ m
+  pub none-taken : (m : Medium) (ms : List Motion) → moved m (take 0 ms) ≡ m
   unfolding moved
   none-taken m ms = refl
 
@@ -140,7 +140,7 @@ module _ (l : Grain) (G D : ℕ) (z : Sizes G D) where
       }
 
   -- a board with nothing written since
-  pub lost-under : (b b′ : Board) (chosen : ℕ → Bool) (k : Losing b chosen) → b′ .homes ≡ D → b′ .book ≡ cutTo (k .commits) (b .book) → b′ .medium ≡ loses l chosen (b .medium) → Under l G D z b′
+  unfoldable pub lost-under : (b b′ : Board) (chosen : ℕ → Bool) (k : Losing b chosen) → b′ .homes ≡ D → b′ .book ≡ cutTo (k .commits) (b .book) → b′ .medium ≡ loses l chosen (b .medium) → Under l G D z b′
   lost-under b b′ chosen k e₁ e₂ e₃ =
       record {
         w = k .w;

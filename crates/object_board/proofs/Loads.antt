@@ -33,6 +33,21 @@ use Rattle.object_board.proofs.Turns.{movesTo, Calls, calls-next, made-
 use Rattle.object_board.proofs.Good.{Sized, Under, Kept, Waiting, rests, asked, loads, Behind, Loaded, Good, behind, loaded, follows, under-like}
 use Rattle.object_board.proofs.Happens.{Losing, losing, lost-under, load-none}
 
+-- a board whose log has been loaded
+unfoldable pub lostBoard : Grain → Board → (ℕ → Bool) → ℕ → Board
+lostBoard l b chosen n =
+    let m : Lent = b .memory in
+    record {
+      homes = b .homes;
+      control = b .control;
+      memory = lentTo (loses l chosen (b .medium) .lasting .log) (m .area) (m .state) (m .newest) (m .block) (m .batch);
+      turn = b .turn;
+      told = b .told;
+      shown = b .shown;
+      medium = loses l chosen (b .medium);
+      book = cutTo n (b .book);
+    }
+
 -- what a stage without a call leaves
 record Passed (b b′ : Board) : Type 0 where
   homes : b′ .homes ≡ b .homes
@@ -114,3 +129,56 @@ module _ (l : Grain) (G D : ℕ) (z : Sizes G D) where
         left = λ h. (y .3 ∙ x .0, omega (arith, y .1, y .2, x .1));
         waiting = loads (length (b .memory .log)) (y .5) (y .4 ∙ o) (c .turn ∙ v .1);
       }), ap isOver (c .told ∙ v .1) ∙ load-is 0 (length (b .memory .log)))
+
+  -- the log is loaded: a loss
+  loads-log : (b : Board) (m : ℕ) → b .turn ≡ load 0 m → (chosen : ℕ → Bool) (n : ℕ) → happens l b (goes chosen) n ≡ next (lostBoard l b chosen n) 0
+  unfolding happens goesOn carried copied keeps loadsLog load lostBoard withMedium
+  loads-log b m e chosen n = rw e
+
+  pub is-loss : (b : Board) (m : ℕ) → b .turn ≡ load 0 m → loadsLog (b .turn) ≡ true
+  unfolding loadsLog load
+  is-loss b m e = rw e
+
+  closed-of : (w : World) (s : Store) → Way G D z w s → w .ready ≡ false → Closed G D w
+  closed-of w s k e = go (k .standing .invariant)
+    where
+      go : Invariant G D w → Closed G D w
+      go (inl c) = c
+      go (inr r) = absurd (false≢true (sym e ∙ r .ready))
+
+  pub loads-goes : (b : Board) (k : Behind l G D z b) (m : ℕ) → b .control .stage ≡ 20 → b .control .op ≡ 19 → b .turn ≡ load 0 m → (chosen : ℕ → Bool) (x : Losing l G D z b chosen)
+      → Good l G D z (happens l b (goes chosen) (x .commits)) × (isOver (happens l b (goes chosen) (x .commits) .told) ≡ false)
+  unfolding lostBoard lost-under
+  loads-goes b k m e o t chosen x =
+      let y = k .left (λ h. omega (arith, h, e)) in
+      let b₁ : Board = lostBoard l b chosen (x .commits) in
+      let c = calls-next (lostBoard l b chosen (x .commits)) (y .1) in
+      let p = passed-by (lostBoard l b chosen (x .commits)) (y .1) (omega (arith, e)) in
+      let v = control-of (movesTo b₁) (withStage (b .control) 1) (load 1 (length (b .memory .area))) (moves-area b₁ e) in
+      let r = landing-of (b .control) (next b₁ 0 .control) 1 (c .control ∙ v .0) in
+      let i = closed-of (x .w) (x .s) (x .way) (x .ready) in
+      let f : loses l chosen (b .medium) .lasting .log ≡ x .w .memory .log = ap (λ (j : Medium). j .lasting .log) (x .medium) in
+      let s : Sized l G D z (b₁ .memory) =
+      record {
+        state = k .kept .sized .state;
+        newest = k .kept .sized .newest;
+        log = ap length f ∙ i .opens .logSize;
+        area = k .kept .sized .area;
+        room = k .kept .sized .room;
+      } in
+      subst (λ (j : Board). Good l G D z j × (isOver (j .told) ≡ false)) (sym (loads-log b m t chosen (x .commits)))
+      (loaded
+      (record {
+        under = lost-under l G D z b (next b₁ 0) chosen x (p .homes ∙ k .under .homes) (p .book) (p .medium);
+        kept = record { sized = sized-by b₁ (next b₁ 0) p s; landing = r .0 ∙ k .kept .landing };
+        ready = x .ready;
+        quiet = x .pending;
+        passed = x .passed;
+        condition = r .3 ∙ y .0;
+        stage = r .5;
+        op = r .4 ∙ o;
+        left = omega (arith, r .1, r .2, y .1);
+        turn = (length (b .memory .area), c .turn ∙ v .1);
+        log = p .log ∙ f;
+        whole = p .medium ∙ x .medium;
+      }), ap isOver (c .told ∙ v .1) ∙ load-is 1 (length (b .memory .area)))
