@@ -64,7 +64,7 @@ pub record NewBatch (c c′ : Control) (long : ℕ) : Type 0 where
 abbrev pub Cursors : Control → Control → ℕ → ℕ → Type 0
 Cursors c c′ size code = (SameCursor c c′ × (size ≡ 0)) ⊎ (NewBatch c c′ size × (code ≡ 0))
 
-headed-blocks : (headed next : ℕ) (rs : List Record) → headedAfter blocks headed next rs ≡ headed
+pub headed-blocks : (headed next : ℕ) (rs : List Record) → headedAfter blocks headed next rs ≡ headed
 unfolding headedAfter headedAt
 headed-blocks headed next [] = refl
 headed-blocks headed next (GW slot group ∷ rs) = headed-blocks headed next rs

@@ -168,7 +168,7 @@ module _ (l : Grain) (G D : ℕ) (z : Sizes G D) where
   unfolding fresh
   fresh-is b k = (ap (λ (c : Control). c .condition) (k .control), ap (λ (c : Control). c .stage) (k .control))
 
-  over-done : (code figure : ℕ) → isOver (done code figure) ≡ true
+  pub over-done : (code figure : ℕ) → isOver (done code figure) ≡ true
   unfolding isOver done
   over-done code figure = refl
 

@@ -12,3 +12,4 @@ pub mod Calling
 pub mod Good
 pub mod Happens
 pub mod Loads
+pub mod Opening

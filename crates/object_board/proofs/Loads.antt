@@ -139,7 +139,7 @@ module _ (l : Grain) (G D : ℕ) (z : Sizes G D) where
   unfolding loadsLog load
   is-loss b m e = rw e
 
-  closed-of : (w : World) (s : Store) → Way G D z w s → w .ready ≡ false → Closed G D w
+  pub closed-of : (w : World) (s : Store) → Way G D z w s → w .ready ≡ false → Closed G D w
   closed-of w s k e = go (k .standing .invariant)
     where
       go : Invariant G D w → Closed G D w
