@@ -76,7 +76,7 @@ unfoldable isWords : Grain → Bool
 isWords words = true
 isWords blocks = false
 
-grain-not : blocks ≡ words → ⊥
+pub grain-not : blocks ≡ words → ⊥
 unfolding isWords
 grain-not e = false≢true (ap isWords e)
 
