@@ -472,3 +472,42 @@ module _ (l : Grain) (G D : ℕ) (z : Sizes G D) (b : Board) (k : Loaded l G D z
             (omega (arith, z .low)) (z .high) (z .homes) (omega arith) (m .fitting)
             (subst (λ (i : ℕ). Due l G (ends w opens₀ .log) (nextOf (ends w opens₀)) i (waitingAfter l [] (w .pending)) (recordsOf (ends w opens₀))) before (m .due)) in
             rw (in-hand, at-front, ← next-v, t .log) (subst (λ (i : List Motion). Hands l G D (nextOf (ends w opens₀)) (batchBytes (recordsOf (ends w opens₀))) (ends w opens₀ .log) (cursor 0 (nextOf (ends w opens₀)) 0) (motions l i (recordsOf (ends w opens₀))) H) none-waits h)
+
+    -- the homes are those after the commits
+    area-is : v .area ≡ homesAfter D (v .book .commits)
+    unfolding withCommits
+    area-is =
+        let h = keeps G D z w (k .under .way .standing .invariant) (call opens₀) allowed .1 in
+        let d : w .homes ≡ D = closed-of l G D z w (k .under .s) (k .under .way) (k .ready) .homes in
+        t .area ∙ h .restored done₀ ∙ ap (λ (i : ℕ). homesAfter i (w .book .commits)) d ∙ sym (owed-homes D (w .book .commits))
+        ∙ ap (λ (i : Book). homesAfter D (i .commits)) (sym (t .book))
+
+    opened : Result
+    unfolding areaBoard along
+    opened =
+        (follows
+        (quiet-follows l G D z b′ along (quiet-pass b′ (g .turn ∙ o .turn))
+        (subst (λ (i : Control). Facts l G D z i v (follow (k .under .s) w (call opens₀))) (sym (g .control))
+        (record {
+          kind = opening (o .stage-is) (o .op ∙ k .op) (o .condition-is ∙ k .condition);
+          fenced = λ h. absurd (omega (arith, h, o .stage-is));
+          area = λ h. area-is;
+        }))
+        (λ h. absurd (omega (arith, h, ap (λ (i : Control). i .stage) (g .control) ∙ o .stage-is)))
+        (λ p h. omega (arith, h, ap (λ (i : Control). i .stage) (g .control) ∙ o .stage-is))),
+        λ h. absurd (pass-under (subst (λ (i : Turn). isOver i ≡ true) (g .told ∙ o .turn) h)))
+
+  calls : CalledTo (b₁ .control) (made b₁ .code) (made b₁ .figure) (made b₁ .size) (stateOf (made b₁ .state)) (movesTo b₁) → Result
+  calls (over x r t q) = absurd (omega (arith, t, ap (λ (i : ℕ). getD after i 0) stage-is ∙ after-open))
+  calls (on x t q) =
+      opened x (made b₁ .figure)
+      (q ∙ ap (λ (i : ℕ). machine.moved (withBatch (gone (b₁ .control) (stateOf (made b₁ .state))) i (made b₁ .figure) (made b₁ .size)) pass) (ap (λ (i : ℕ). getD after i 0) stage-is ∙ after-open))
+  calls (room x t q) = absurd (x (t ∙ ap full stage-is ∙ full-open))
+  calls (fence x t q) = absurd (omega (arith, t, stage-is))
+  calls (refuse figure x q) = refuses figure x q
+
+  pub loaded-goes : (chosen : ℕ → Bool) (n : ℕ)
+      → Good l G D z (happens l b (goes chosen) n) × (isOver (happens l b (goes chosen) n .told) ≡ true → Tells (happens l b (goes chosen) n))
+  loaded-goes chosen n =
+      subst (λ (i : Board). Good l G D z i × (isOver (i .told) ≡ true → Tells i)) (sym (loads-area l b (k .turn .0) (k .turn .1) chosen n))
+      (calls (follows-called b₁ (omega (arith, stage-is))))
