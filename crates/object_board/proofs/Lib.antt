@@ -13,3 +13,4 @@ pub mod Good
 pub mod Happens
 pub mod Loads
 pub mod Opening
+pub mod Asks
