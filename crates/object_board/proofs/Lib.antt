@@ -14,3 +14,4 @@ pub mod Happens
 pub mod Loads
 pub mod Opening
 pub mod Asks
+pub mod Once
