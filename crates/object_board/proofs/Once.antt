@@ -41,6 +41,7 @@ use Rattle.object_board.proofs.StepLaws.{Stepped, stepped}
 use Rattle.object_board.proofs.Ways.{Way, way-call, way-running, next-told, fenced-told}
 use Rattle.object_board.proofs.Along.{cursorOf, first, Copies, Ahead, Along, passed-fences}
 use Rattle.object_board.proofs.Follows.{dueOf, aheadOf, Kind, idle, other, sync, opening, Facts, Follows}
+use Rattle.object_board.proofs.Stages.{other-not, sync-not}
 use Rattle.object_board.proofs.Good.{Good, behind, loaded, follows}
 use Rattle.object_board.proofs.Happens.{told-good}
 use Rattle.object_board.proofs.Asks.{shut-open, refusal-is, shut-failed}
@@ -153,3 +154,132 @@ read-stands w v home block s = go (eqb (ends w (read v home block) .code) 0)
 pub read-quick : (w : World) (v home : ℕ) (block : List ℕ) → Quick w (read v home block)
 read-quick w v home block = quick-by w (read v home block) (unfold isOpening in refl) (unfold isConfirm in refl) (read-plain w v home block) (read-stands w v home block)
 
+passed-same : (w : World) (d : Call) → isConfirm d ≡ false → step w (call d) .passed ≡ w .passed
+unfolding step
+passed-same w d k = go (ends w d .code)
+  where
+    go : (n : ℕ) → afterCall w d (ends w d) n .passed ≡ w .passed
+    go zero = (unfold afterCall afterDone in rw k)
+    go (suc n) = (unfold afterCall afterRefused in refl)
+
+open-not : (c : Control) → Kind c → c .condition ≡ 2 → c .stage ≡ 21 → ⊥
+open-not c (idle h i) e s = omega (arith, h, s)
+open-not c (other h i j) e s = other-not (c .stage) h .5 s
+open-not c (sync h i j) e s = sync-not (c .stage) h .4 s
+open-not c (opening h i j) e s = omega (arith, e, j)
+
+module _ (l : Grain) (G D : ℕ) (z : Sizes G D) (b : Board) (f : Follows l G D z b) (usable : b .control .condition ≡ 2) where
+  abbrev a : Along l G D z (aheadOf b)
+  a = f .along
+
+  abbrev w : World
+  w = f .along .w
+
+  -- the copies, as the board has them
+  copies : Copies l G D z (b .memory) w
+  unfolding withMedium
+  copies = a .copies
+
+  module _ (d : Call) (q : Quick w d) (o : Outcome) (code : o .code ≡ ends w d .code) (figure : o .figure ≡ ends w d .figure) (state : o .state ≡ ends w d .state) where
+    abbrev v : World
+    v = step (f .along .w) (call d)
+
+    abbrev s′ : Store
+    s′ = follow (f .along .s) (f .along .w) (call d)
+
+    abbrev b′ : Board
+    b′ = atOnce b o d
+
+    allowed : Allowed w (call d)
+    allowed = q .opening ∙ sym (ap not (a .ready))
+
+    way′ : Way G D z v s′
+    way′ = way-call G D z w (a .s) (a .way) d allowed
+
+    t : Stepped w d v (ends w d .code)
+    t = stepped w d (q .opening) (a .ready) (passed-fences l G D z w (length (a .out)) (a .carried))
+
+    pending : v .pending ≡ w .pending
+    pending = t .pending ∙ ap (λ (x : List Record). w .pending ++ x) (q .records) ∙ append-nil (w .pending)
+
+    next-same : stateOf (v .state) .next ≡ stateOf (w .state) .next
+    next-same = next-told G D z v s′ way′ (t .ready) ∙ q .next (a .s) ∙ sym (next-told G D z w (a .s) (a .way) (a .ready))
+
+    fenced-same : stateOf (v .state) .fenced ≡ stateOf (w .state) .fenced
+    fenced-same = fenced-told G D z v s′ way′ (t .ready) ∙ q .fenced (a .s) ∙ sym (fenced-told G D z w (a .s) (a .way) (a .ready))
+
+    due-same : dueOf b′ ≡ dueOf b
+    unfolding dueOf atOnce pieceOf inHand
+    due-same = refl
+
+    carried′ : (n : ℕ) → Carried l w n → Carried l v n
+    carried′ n k =
+        record { front = k .front; more = k .more; split = pending ∙ k .split; confirmed = omega (arith, passed-same w d (q .confirm), k .confirmed); out = k .out }
+
+    log-same : v .log ≡ w .log
+    log-same = t .log ∙ q .log
+
+    book-same : atOnce b o d .book ≡ v .book
+    unfolding atOnce withMedium
+    book-same = ap (λ (x : Book). fedBy x (some d) (o .code) (o .figure)) (a .book) ∙ ap (λ (x : ℕ). fedBy (w .book) (some d) x (o .figure)) code ∙ ap (λ (x : ℕ). fedBy (w .book) (some d) (ends w d .code) x) figure ∙ sym (t .book)
+
+    hands′ : Hands l G D (stateOf (v .state) .next) (inHand b) (v .log) (cursorOf (b .control)) (a .rest) (a .headed)
+    unfolding withMedium inHand
+    hands′ =
+        subst (λ (x : List ℕ). Hands l G D (stateOf (v .state) .next) (inHand b) x (cursorOf (b .control)) (a .rest) (a .headed)) (sym log-same)
+        (subst (λ (x : ℕ). Hands l G D x (inHand b) (w .log) (cursorOf (b .control)) (a .rest) (a .headed)) (sym next-same) (a .hands))
+
+    along′ : Along l G D z (aheadOf b′)
+    unfolding withMedium atOnce inHand
+    along′ =
+        record {
+          w = v;
+          s = s′;
+          way = way′;
+          ready = t .ready;
+          homes = a .homes;
+          copies =
+              record {
+                log = a .copies .log ∙ sym log-same;
+                area = a .copies .area ∙ sym (t .area ∙ q .area);
+                state = state ∙ sym (t .state);
+                newest = a .copies .newest ∙ sym (t .newest ∙ q .newest);
+                room = a .copies .room;
+              };
+          book = book-same;
+          landing = a .landing;
+          out = a .out;
+          rest = a .rest;
+          headed = a .headed;
+          split = ap (motions l []) pending ∙ a .split;
+          medium = ap (moved (b .medium)) due-same ∙ a .medium ∙ ap (λ (x : Memory). moved (record { lasting = x; written = [] }) (a .out)) (sym (t .memory));
+          hands = hands′;
+          ahead =
+              record {
+                low = omega (arith, a .ahead .low, next-same);
+                words = λ p. a .ahead .words p ∙ ap (λ (x : ℕ). x / 7) (sym fenced-same);
+              };
+          fits = a .fits;
+          carried = carried′ (length (a .out)) (a .carried);
+        }
+
+    pub once-follows : Follows l G D z b′
+    unfolding atOnce along′
+    once-follows =
+        record {
+          along = along′;
+          facts =
+              record {
+                kind = f .facts .kind;
+                fenced = λ h. q .fenced (a .s) ∙ f .facts .fenced h ∙ sym (q .position (a .s));
+                area = λ h. absurd (open-not (b .control) (f .facts .kind) usable h);
+              };
+          before = f .before;
+          out = f .out ∙ ap (λ (x : List Motion). f .before ++ x) (sym due-same);
+          medium = f .medium ∙ ap (λ (x : Memory). moved (record { lasting = x; written = [] }) (f .before)) (sym (t .memory));
+          carried = carried′ (length (f .before)) (f .carried);
+          idle = f .idle;
+          live = f .live;
+          log = f .log;
+          area = f .area;
+        }
