@@ -154,7 +154,7 @@ module _ (l : Grain) (G D : ℕ) (z : Sizes G D) where
       }
 
   -- power goes
-  started-kept : (b b′ : Board) → Started l G D b → b′ .memory ≡ b .memory → b′ .control ≡ b .control → Kept l G D z b′
+  pub started-kept : (b b′ : Board) → Started l G D b → b′ .memory ≡ b .memory → b′ .control ≡ b .control → Kept l G D z b′
   unfolding fresh
   started-kept b b′ k e f =
       record {
@@ -164,7 +164,7 @@ module _ (l : Grain) (G D : ℕ) (z : Sizes G D) where
         landing = ap (λ (c : Control). c .landing) (f ∙ k .control);
       }
 
-  fresh-is : (b : Board) → Started l G D b → (b .control .condition ≡ 1) × (b .control .stage ≡ 0)
+  pub fresh-is : (b : Board) → Started l G D b → (b .control .condition ≡ 1) × (b .control .stage ≡ 0)
   unfolding fresh
   fresh-is b k = (ap (λ (c : Control). c .condition) (k .control), ap (λ (c : Control). c .stage) (k .control))
 

@@ -15,3 +15,4 @@ pub mod Loads
 pub mod Opening
 pub mod Asks
 pub mod Once
+pub mod BoardHolds

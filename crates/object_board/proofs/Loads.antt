@@ -76,7 +76,7 @@ passed-by b l h =
       batch = k .batch ∙ q .batch;
     }
 
-pass-quiet : (b : Board) → b .turn ≡ pass → (dueOf b ≡ []) × (loadsLog (b .turn) ≡ false) × (loadsArea (b .turn) ≡ false)
+pub pass-quiet : (b : Board) → b .turn ≡ pass → (dueOf b ≡ []) × (loadsLog (b .turn) ≡ false) × (loadsArea (b .turn) ≡ false)
 unfolding dueOf loadsLog loadsArea pass
 pass-quiet b e = (rw e, rw e, rw e)
 

@@ -283,3 +283,130 @@ module _ (l : Grain) (G D : ℕ) (z : Sizes G D) (b : Board) (f : Follows l G D 
           log = f .log;
           area = f .area;
         }
+
+-- ---- each of them
+
+begins-as : (b : Board) (w : World) (v : ℕ) → b .memory .log ≡ w .log → b .memory .area ≡ w .area → b .memory .state ≡ w .state
+    → beginsIn b v ≡ beginCall (lentTo₀ w [] [] v 0)
+unfolding beginsIn
+begins-as b w v e₁ e₂ e₃ = rw (e₁, e₂, e₃)
+
+aborts-as : (b : Board) (w : World) (v : ℕ) → b .memory .log ≡ w .log → b .memory .area ≡ w .area → b .memory .state ≡ w .state
+    → abortsIn b v ≡ abortCall (lentTo₀ w [] [] v 0)
+unfolding abortsIn
+aborts-as b w v e₁ e₂ e₃ = rw (e₁, e₂, e₃)
+
+reads-as : (b : Board) (w : World) (v home : ℕ) (block : List ℕ) → b .memory .log ≡ w .log → b .memory .area ≡ w .area → b .memory .state ≡ w .state → b .memory .newest ≡ w .newest
+    → readsIn b v home block ≡ ends w (read v home block)
+unfolding readsIn ends serviceEnds history.lent
+reads-as b w v home block e₁ e₂ e₃ e₄ = rw (e₁, e₂, e₃, e₄)
+
+left-fields : (newest : List ℕ) (o p : Outcome) → p ≡ leftWith newest o → (o .code ≡ p .code) × (o .figure ≡ p .figure) × (o .state ≡ p .state)
+unfolding leftWith
+left-fields newest o p e = (rw e, rw e, rw e)
+
+refusal-code : (c : Control) (code : ℕ) → refusal c code .code ≡ code
+unfolding refusal done
+refusal-code c code = refl
+
+module _ (l : Grain) (G D : ℕ) (z : Sizes G D) (b : Board) (f : Follows l G D z b) (usable : b .control .condition ≡ 2) where
+  homes-is : b .homes ≡ D
+  unfolding withMedium
+  homes-is = f .along .homes
+
+  book-is : b .book ≡ f .along .w .book
+  unfolding withMedium
+  book-is = f .along .book
+
+  pub read-block : (v home : ℕ) (block : List ℕ) → readsIn b v home block .code ≡ 0 → readsIn b v home block .block ≡ readBy (b .homes) (b .book) v home
+  read-block v home block e =
+      let w : World = f .along .w in
+      let c = copies l G D z b f usable in
+      let o = reads-as b w v home block (c .log) (c .area) (c .state) (c .newest) in
+      let r = way-running G D z w (f .along .s) (f .along .way) (f .along .ready) in
+      let k = live-now G D z w (f .along .s) (f .along .way .standing) (f .along .ready) in
+      ap (λ (x : Outcome). x .block) o ∙ k .readable v home block (sym (ap (λ (x : Outcome). x .code) o) ∙ e)
+      ∙ ap (λ (x : ℕ). readBy x (w .book) v home) (r .copies .homes ∙ sym homes-is) ∙ ap (λ (x : Book). readBy (b .homes) x v home) (sym book-is)
+
+pub once-told : (b : Board) (o : Outcome) (d : Call) → Shut b (once b o d .told)
+unfolding once
+once-told b o d h = rw (shut-failed (b .control) h) (tells (b .control))
+  where
+    tells : (c : Control) → refusedTo b (refusal (b .control) 65) .told ≡ done 65 (b .control .error)
+    tells c = (unfold refusedTo refusal in refl)
+
+module _ (l : Grain) (G D : ℕ) (z : Sizes G D) (b : Board) (good : Good l G D z b) where
+  once-good : (o : Outcome) (d : Call) → ((f : Follows l G D z b) → b .control .condition ≡ 2 → Follows l G D z (atOnce b o d)) → Good l G D z (once b o d)
+  unfolding once
+  once-good o d k = go (eqb (shut (b .control)) 0) refl good
+    where
+      not-two : (b .control .condition ≡ 1) ⊎ (b .control .condition ≡ 3) → b .control .condition ≡ 2 → ⊥
+      not-two (inl p) q = omega (arith, p, q)
+      not-two (inr p) q = omega (arith, p, q)
+
+      go : (i : Bool) → eqb (shut (b .control)) 0 ≡ i → Good l G D z b → Good l G D z (cond i (atOnce b o d) (refusedTo b (refusal (b .control) (shut (b .control)))))
+      go true e (behind x) = absurd (not-two (x .shut) (shut-open (b .control) (eqb-true (shut (b .control)) 0 e)))
+      go true e (loaded x) = absurd (omega (arith, x .condition, shut-open (b .control) (eqb-true (shut (b .control)) 0 e)))
+      go true e (follows x) = follows (k x (shut-open (b .control) (eqb-true (shut (b .control)) 0 e)))
+      go false e x = told-good l G D z b (refusal (b .control) (shut (b .control))) x
+
+  pub begins-good : (v n : ℕ) → Good l G D z (happens l b (board.begins v) n)
+  unfolding happens
+  begins-good v n =
+      once-good (beginsIn b v) (begin v)
+      (λ f u.
+        let w : World = f .along .w in
+        let c = copies l G D z b f u in
+        let e = left-fields (w .newest) (beginCall (lentTo₀ w [] [] v 0)) (ends w (begin v)) (lent-alike .calls w (begin v)) in
+        let o = begins-as b w v (c .log) (c .area) (c .state) in
+        once-follows l G D z b f u (begin v) (begin-quick w v) (beginsIn b v) (ap (λ (x : Outcome). x .code) o ∙ e .0) (ap (λ (x : Outcome). x .figure) o ∙ e .1)
+        (ap (λ (x : Outcome). x .state) o ∙ e .2))
+
+  pub aborts-good : (v n : ℕ) → Good l G D z (happens l b (board.aborts v) n)
+  unfolding happens
+  aborts-good v n =
+      once-good (abortsIn b v) (abort v)
+      (λ f u.
+        let w : World = f .along .w in
+        let c = copies l G D z b f u in
+        let e = left-fields (w .newest) (abortCall (lentTo₀ w [] [] v 0)) (ends w (abort v)) (lent-alike .calls w (abort v)) in
+        let o = aborts-as b w v (c .log) (c .area) (c .state) in
+        once-follows l G D z b f u (abort v) (abort-quick w v) (abortsIn b v) (ap (λ (x : Outcome). x .code) o ∙ e .0) (ap (λ (x : Outcome). x .figure) o ∙ e .1)
+        (ap (λ (x : Outcome). x .state) o ∙ e .2))
+
+  pub reads-good : (v home : ℕ) (block : List ℕ) (n : ℕ) → Good l G D z (happens l b (board.reads v home block) n)
+  unfolding happens
+  reads-good v home block n =
+      once-good (readsIn b v home block) (read v home block)
+      (λ f u.
+        let w : World = f .along .w in
+        let c = copies l G D z b f u in
+        let o = reads-as b w v home block (c .log) (c .area) (c .state) (c .newest) in
+        once-follows l G D z b f u (read v home block) (read-quick w v home block) (readsIn b v home block) (ap (λ (x : Outcome). x .code) o) (ap (λ (x : Outcome). x .figure) o)
+        (ap (λ (x : Outcome). x .state) o))
+
+  -- a done read gives the writer's own newest block, else the newest committed one
+  pub reads-right : (v home : ℕ) (block : List ℕ) (n : ℕ) → happens l b (board.reads v home block) n .told .code ≡ 0
+      → happens l b (board.reads v home block) n .shown ≡ readBy (b .homes) (b .book) v home
+  unfolding happens once
+  reads-right v home block n = go (eqb (shut (b .control)) 0) refl good
+    where
+      not-two : (b .control .condition ≡ 1) ⊎ (b .control .condition ≡ 3) → b .control .condition ≡ 2 → ⊥
+      not-two (inl p) q = omega (arith, p, q)
+      not-two (inr p) q = omega (arith, p, q)
+
+      Shown : Board → Type 0
+      Shown x = x .told .code ≡ 0 → x .shown ≡ readBy (b .homes) (b .book) v home
+
+      refused-no : eqb (shut (b .control)) 0 ≡ false → Shown (refusedTo b (refusal (b .control) (shut (b .control))))
+      refused-no e h = absurd (eqb-false (shut (b .control)) 0 e (sym (refusal-code (b .control) (shut (b .control))) ∙ (unfold refusedTo in h)))
+
+      shows : Follows l G D z b → b .control .condition ≡ 2 → Shown (atOnce b (readsIn b v home block) (read v home block))
+      shows f u h = (unfold atOnce in read-block l G D z b f u v home block (unfold atOnce done in h))
+
+      go : (i : Bool) → eqb (shut (b .control)) 0 ≡ i → Good l G D z b
+          → Shown (cond i (atOnce b (readsIn b v home block) (read v home block)) (refusedTo b (refusal (b .control) (shut (b .control)))))
+      go true e (behind x) = absurd (not-two (x .shut) (shut-open (b .control) (eqb-true (shut (b .control)) 0 e)))
+      go true e (loaded x) = absurd (omega (arith, x .condition, shut-open (b .control) (eqb-true (shut (b .control)) 0 e)))
+      go true e (follows x) = shows x (shut-open (b .control) (eqb-true (shut (b .control)) 0 e))
+      go false e x = refused-no e
