@@ -58,17 +58,19 @@ ofRevise =
     ∷ reviseCall (listed 128 2 12) .code ∷ reviseCall (listed 64 2 4) .code ∷ reviseCall (listed 64 1 6) .code ∷ reviseCall (listed 64 0 1) .code
     ∷ reviseCall (listed 64 1 3) .code ∷ reviseCall five .code ∷ []
 
--- transact: (1, 2), (2, 4), (4, 5), (5, 19), (19, 6), (6, 8), (8, 9), 6, 8 and 9 alone; done, with no right to read and with five groups too
+-- transact: (1, 2), (2, 4), (4, 5), (5, 19), (19, 6), (6, 8), (8, 9), 6, 8 and 9 alone; done, with no right to read and with five groups too. Seven blocks, 448
+-- bytes, are done, eight are not.
 unfoldable pub ofTransact : List ℕ
 ofTransact =
     transactCall (lend (wrong new) [] [] 0 0) .code ∷ transactCall (lend (wrong new) (fill 1) [] 8 0) .code ∷ transactCall (lend new (fill 1) [] 8 8) .code
     ∷ transactCall (listed 128 2 12) .code ∷ transactCall (listed 64 3 4) .code ∷ transactCall (lend nearlyFull (fill 1) [] 0 0) .code
     ∷ transactCall (lend nearlyFull (fill 1) [] 2 0) .code ∷ transactCall (lend (setWriter new 2 begun) (fill 1) [] 2 0) .code
     ∷ transactCall (lend nearlyFull (fill 1) (zeros 516) 2 0) .code ∷ transactCall (lend (setPromise nearlyFull 0 0) (fill 1) (zeros 515) 2 0) .code
-    ∷ transactCall (lend (setPromise nearlyFull 0 0) (fill 1) (zeros 516) 2 0) .code ∷ transactCall (listed 128 0 1) .code ∷ transactCall five .code ∷ []
+    ∷ transactCall (lend (setPromise nearlyFull 0 0) (fill 1) (zeros 516) 2 0) .code ∷ transactCall (listed 128 0 1) .code ∷ transactCall five .code
+    ∷ transactCall (lend new (zeros 448) (zeros 516) 0 1) .code ∷ transactCall (lend new (zeros 512) (zeros 1032) 0 0) .code ∷ []
 
 unfoldable pub verdicts : List Trial
 verdicts =
     record { yields = ofFetch; paper = 1 ∷ 1 ∷ 1 ∷ 1 ∷ 2 ∷ 4 ∷ 5 ∷ 5 ∷ 20 ∷ 20 ∷ 0 ∷ 0 ∷ [] }
     ∷ record { yields = ofRevise; paper = 1 ∷ 2 ∷ 4 ∷ 5 ∷ 19 ∷ 19 ∷ 20 ∷ 0 ∷ 0 ∷ [] }
-    ∷ record { yields = ofTransact; paper = 1 ∷ 2 ∷ 4 ∷ 5 ∷ 19 ∷ 6 ∷ 8 ∷ 6 ∷ 8 ∷ 9 ∷ 0 ∷ 0 ∷ 0 ∷ [] } ∷ []
+    ∷ record { yields = ofTransact; paper = 1 ∷ 2 ∷ 4 ∷ 5 ∷ 19 ∷ 6 ∷ 8 ∷ 6 ∷ 8 ∷ 9 ∷ 0 ∷ 0 ∷ 0 ∷ 0 ∷ 1 ∷ [] } ∷ []
