@@ -1,5 +1,5 @@
 /* The store object on a log that is worn out: its start may reach 2^47 and no more, and answer 10 loses nothing. */
-/* Clauses: [S-27, S-73, S-74, S-76] */
+/* Clauses: [S-26, S-39, S-73, S-74, S-76] */
 #include <stdio.h>
 #include <stdlib.h>
 #include <string.h>
