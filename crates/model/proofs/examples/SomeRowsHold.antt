@@ -1,4 +1,4 @@
--- Rows of the longer tables, by computation: those that refuse a wrong definition which no shorter table does. Rows count from 0.
+-- Rows of the longer tables, by computation: with them every edit of this crate is refused by a table here. Rows count from 0.
 use mathlib.Core.Path.{_≡_, refl}
 use mathlib.Core.Bool.{true}
 use mathlib.Core.List.{[], _∷_}
