@@ -39,6 +39,7 @@ C_DRIVER_CHECK = tests/programs/driver_check c/station/driver c/station/driver_f
 C_QUICKSTART = c/examples/quickstart $(C_STORE)
 C_STORE_CHECK = tests/store/store_check tests/common/play $(C_STORE)
 C_RESERVE_CHECK = tests/store/reserve_check $(C_STORE)
+C_WORN_CHECK = tests/store/worn_check $(C_STORE)
 C_MANY_CHECK = tests/store/many_check
 C_HEADS_CHECK = tests/store/heads_check $(C_STORE)
 C_RUNNER_CHECK = $(addprefix tests/store/,runner_check runner_trace hand_runner) $(C_STORE)
@@ -58,7 +59,7 @@ C_RIGHTS_COST = tests/costs/rights_cost
 C_QUESTION_COST = tests/costs/question_cost
 C_WAIT_COST = tests/costs/wait_cost
 C_OBJECT_COST = tests/costs/object_cost $(C_STORE)
-C_PROGRAMS = quickstart driver_check store_check reserve_check many_check heads_check runner_check round_check rights_check file_check create_check kill_check fram_check dump_check format_check reopen_check disk_check seal_check gauges_cost rights_cost question_cost wait_cost object_cost
+C_PROGRAMS = quickstart driver_check store_check reserve_check worn_check many_check heads_check runner_check round_check rights_check file_check create_check kill_check fram_check dump_check format_check reopen_check disk_check seal_check gauges_cost rights_cost question_cost wait_cost object_cost
 
 .PHONY: quickstart c-sanitize c-check c-kills c-dist install uninstall c-clean
 
@@ -97,6 +98,7 @@ $(eval $(call C_PROGRAM,quickstart,$(C_QUICKSTART),$(LIB)))
 $(eval $(call C_PROGRAM,driver_check,$(C_DRIVER_CHECK),$(LIB)))
 $(eval $(call C_PROGRAM,store_check,$(C_STORE_CHECK),$(LIB)))
 $(eval $(call C_PROGRAM,reserve_check,$(C_RESERVE_CHECK),$(LIB)))
+$(eval $(call C_PROGRAM,worn_check,$(C_WORN_CHECK),$(LIB)))
 $(eval $(call C_PROGRAM,many_check,$(C_MANY_CHECK),$(LIB)))
 $(eval $(call C_PROGRAM,heads_check,$(C_HEADS_CHECK),$(LIB)))
 $(eval $(call C_PROGRAM,runner_check,$(C_RUNNER_CHECK),$(LIB)))
@@ -123,7 +125,7 @@ c-check: $(C_PROGRAMS:%=$(C_OUT)/%) c-sanitize
 	CC="$(CC)" LIB="$(LIB)" GAUGES_LIB="$(GAUGES_LIB)" INFLOW_LIB="$(INFLOW_LIB)" sh tests/programs/inflow-check.sh $(C_OUT)
 
 # The quick tests, in seconds.
-C_QUICK = station inspect quickstart gauges inflow bands wear driver_check store_check reserve_check runner_check round_check rights_check file_check fram_check \
+C_QUICK = station inspect quickstart gauges inflow bands wear driver_check store_check reserve_check worn_check runner_check round_check rights_check file_check fram_check \
     format_check reopen_check powerloss_check units_check replies_check lock_check misuse_check
 .PHONY: c-quick
 c-quick: $(C_QUICK:%=$(C_OUT)/%)

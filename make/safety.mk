@@ -16,7 +16,7 @@ trace-check:
 # The comparison with the reference implementation and the tests of the object, on a build of the C file that counts what it runs. One branch a condition: no optimiser.
 EVIDENCE_OUT = target/evidence
 COVERED = $(EVIDENCE_OUT)/build
-COVERING = many_check units_check rights_check reserve_check round_check store_check misuse_check runner_check
+COVERING = many_check units_check rights_check reserve_check worn_check round_check store_check misuse_check runner_check
 
 evidence-coverage: $(COMPARE)
 	@rm -rf $(COVERED) $(EVIDENCE_OUT)/c && mkdir -p $(COVERED)

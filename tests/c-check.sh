@@ -85,6 +85,7 @@ gives 0 "driver" "$san/driver_check" "$tmp/driver.img"
 gives 0 "store: power gone after every byte, any words or blocks at a cut" "$out/store_check" 1 5000
 gives 0 "store: the same under sanitizers, every 17 bytes" "$san/store_check" 17 1500
 gives 0 "store: places promised beforehand" "$san/reserve_check"
+gives 0 "store: a log that is worn out" "$san/worn_check"
 gives 0 "store: calls on several homes, refusal by refusal" "$san/many_check"
 gives 0 "store: many first words wait, power gone after every few bytes" "$san/heads_check"
 gives 0 "store: the runner beside one written by hand, batches and histories" "$san/runner_check"

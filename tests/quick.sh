@@ -12,6 +12,7 @@ gives 0 "quick start" "$out/quickstart" "$tmp/quickstart.img"
 gives 0 "store: power gone after every 17 bytes" "$out/store_check" 17 500
 gives 0 "store: places promised beforehand" "$out/reserve_check"
 gives 0 "store: the runner beside one written by hand" "$out/runner_check"
+gives 0 "store: a log that is worn out" "$out/worn_check"
 gives 0 "store: settling in small steps" "$out/round_check"
 gives 0 "store: the list of rights" "$out/rights_check"
 gives 0 "files: written and mapped" "$out/file_check" "$tmp"

@@ -179,7 +179,7 @@ AccountedThroughout w s fs [] = w .ready ≡ true → PlacesTold w s fs
 AccountedThroughout w s fs (e ∷ es) =
     (w .ready ≡ true → PlacesTold w s fs) × AccountedThroughout (step w e) (follow s w e) (enterEvent s w e fs) es
 
--- [S-45]
+-- [S-45, S-46]
 abbrev pub PlacesAccounted : Type 0
 PlacesAccounted =
     (groups homes : ℕ) (f : Formatting groups homes) (es : List Event) → AllAllowed (afterFormat f) es →

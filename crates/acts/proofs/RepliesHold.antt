@@ -95,7 +95,7 @@ module _ (w : World) (s : Store) (a : Agreeing w s) (v h : ℕ) (blocks batch : 
   unfolding writerKnown lent
   known-is = refl
 
-  asked : (next : ℕ) → askHomes (lent w blocks batch v h) next ≡ askBlocks s v h blocks next
+  pub asked : (next : ℕ) → askHomes (lent w blocks batch v h) next ≡ askBlocks s v h blocks next
   unfolding askHomes askBlocks askNamed
   asked next =
       rw (areas-right, state-right, newest-right, order-right, blocks-right, known-is, homes-known) (unfold ask in refl)

@@ -3,6 +3,7 @@ use Prim.Native.Nat.{ℕ, _+_}
 use mathlib.Core.List.{List, [], _∷_, _++_}
 use lib.ListN.{replicate}
 use Rattle.model.specs.Bytes.{puts, zeros}
+use Rattle.model.specs.Layout.{groupAt, groupTag}
 use Rattle.model.specs.State.{freshState, setHomes, setNext, setFilled, setPromise, setWriter, begun}
 use Rattle.model.specs.Effects.{Given}
 use Rattle.model.specs.examples.Trials.{fill, positions, Trial}
@@ -58,17 +59,25 @@ ofRevise =
     ∷ reviseCall (listed 128 2 12) .code ∷ reviseCall (listed 64 2 4) .code ∷ reviseCall (listed 64 1 6) .code ∷ reviseCall (listed 64 0 1) .code
     ∷ reviseCall (listed 64 1 3) .code ∷ reviseCall five .code ∷ []
 
--- transact: (1, 2), (2, 4), (4, 5), (5, 19), (19, 6), (6, 8), (8, 9), 6, 8 and 9 alone; done, with no right to read and with five groups too
+-- transact: (1, 2), (2, 4), (4, 5), (5, 19), (19, 6), (6, 8), (8, 9), 6, 8 and 9 alone; done, with no right to read and with five groups too. Seven blocks, 448
+-- bytes, are done, eight are not. 19 for the second home alone.
 unfoldable pub ofTransact : List ℕ
 ofTransact =
     transactCall (lend (wrong new) [] [] 0 0) .code ∷ transactCall (lend (wrong new) (fill 1) [] 8 0) .code ∷ transactCall (lend new (fill 1) [] 8 8) .code
     ∷ transactCall (listed 128 2 12) .code ∷ transactCall (listed 64 3 4) .code ∷ transactCall (lend nearlyFull (fill 1) [] 0 0) .code
     ∷ transactCall (lend nearlyFull (fill 1) [] 2 0) .code ∷ transactCall (lend (setWriter new 2 begun) (fill 1) [] 2 0) .code
     ∷ transactCall (lend nearlyFull (fill 1) (zeros 516) 2 0) .code ∷ transactCall (lend (setPromise nearlyFull 0 0) (fill 1) (zeros 515) 2 0) .code
-    ∷ transactCall (lend (setPromise nearlyFull 0 0) (fill 1) (zeros 516) 2 0) .code ∷ transactCall (listed 128 0 1) .code ∷ transactCall five .code ∷ []
+    ∷ transactCall (lend (setPromise nearlyFull 0 0) (fill 1) (zeros 516) 2 0) .code ∷ transactCall (listed 128 0 1) .code ∷ transactCall five .code
+    ∷ transactCall (lend new (zeros 448) (zeros 516) 0 1) .code ∷ transactCall (lend new (zeros 512) (zeros 1032) 0 0) .code
+    ∷ transactCall (listed 128 1 3) .code ∷ []
+
+-- "Writer 0 stores homes 1, 2, commits: tags 5 and 2199023271947" (trial 1): the same by a transact, one transaction
+unfoldable pub tagsLogged : List ℕ
+tagsLogged = let group : List ℕ = groupAt (transactCall (lend new (zeros 128) [] 0 1) .log) 0 in groupTag group 0 ∷ groupTag group 1 ∷ []
 
 unfoldable pub verdicts : List Trial
 verdicts =
     record { yields = ofFetch; paper = 1 ∷ 1 ∷ 1 ∷ 1 ∷ 2 ∷ 4 ∷ 5 ∷ 5 ∷ 20 ∷ 20 ∷ 0 ∷ 0 ∷ [] }
     ∷ record { yields = ofRevise; paper = 1 ∷ 2 ∷ 4 ∷ 5 ∷ 19 ∷ 19 ∷ 20 ∷ 0 ∷ 0 ∷ [] }
-    ∷ record { yields = ofTransact; paper = 1 ∷ 2 ∷ 4 ∷ 5 ∷ 19 ∷ 6 ∷ 8 ∷ 6 ∷ 8 ∷ 9 ∷ 0 ∷ 0 ∷ 0 ∷ [] } ∷ []
+    ∷ record { yields = ofTransact; paper = 1 ∷ 2 ∷ 4 ∷ 5 ∷ 19 ∷ 6 ∷ 8 ∷ 6 ∷ 8 ∷ 9 ∷ 0 ∷ 0 ∷ 0 ∷ 0 ∷ 1 ∷ 19 ∷ [] }
+    ∷ record { yields = tagsLogged; paper = 5 ∷ 2199023271947 ∷ [] } ∷ []

@@ -8,7 +8,7 @@ use native.Mathlib.Omega.{arith}
 use borrow.Author.Tests.{eq-eqb, ne-eqb}
 use lib.Dec.{eqb}
 use lib.ListN.{length, set, getD}
-use Rattle.model.specs.Bytes.{part, puts, number, same}
+use Rattle.model.specs.Bytes.{part, puts, value, number, same}
 use Rattle.model.specs.Layout.{groupMark}
 use Rattle.model_laws.proofs.bytes.ByteLaws.{puts-cons, puts-nil, same-refl, same-ne}
 use Rattle.base_codec.proofs.BlockLaws.{part-cons}
@@ -41,7 +41,11 @@ module _ (s : List ℕ) (at : ℕ) (m : List ℕ) (h : at + 2 ≤ length s) wher
   pub mark-both : length m ≡ 2 → getD s at 0 ≡ getD m 0 0 → getD s (at + 1) 0 ≡ getD m 1 0 → same (part s at 2) m ≡ true
   mark-both l p q = rw (part-two s at h, p, q, ← two m l) (same-refl m)
 
--- mark and number as one word
+-- mark and number as one word, the mark's bytes lowest
+group-mark : number 2 groupMark 0 ≡ 0x4750
+unfolding number value
+group-mark = refl
+
 module _ (s : List ℕ) (at n : ℕ) (h : at + 8 ≤ length s) (byte : (i : ℕ) → getD s i 0 < 256) where
   word-parts : number 8 s at ≡ getD s at 0 + 256 * getD s (at + 1) 0 + 65536 * number 6 s (at + 2)
   word-parts = omega (arith, number-join 2 6 s at, number-join 1 1 s at, number-one s at, number-one s (at + 1))
@@ -50,8 +54,8 @@ module _ (s : List ℕ) (at n : ℕ) (h : at + 8 ≤ length s) (byte : (i : ℕ)
   other-mark : (getD s at 0 ≡ 0x50 → getD s (at + 1) 0 ≡ 0x47 → ⊥) → eqb (number 8 s at) (n * 65536 + 0x4750) ≡ false
   other-mark o = ne-eqb (number 8 s at) (n * 65536 + 0x4750) (λ e. o (omega (arith, word-parts, byte at, byte (at + 1), e)) (omega (arith, word-parts, byte at, byte (at + 1), e)))
 
-  pub head-word : eqb (number 8 s at) (n * 65536 + 0x4750) ≡ (same (part s at 2) groupMark && eqb (number 6 s (at + 2)) n)
-  head-word = first (ℕ-discrete (getD s at 0) 0x50) (ℕ-discrete (getD s (at + 1) 0) 0x47) (ℕ-discrete (number 6 s (at + 2)) n)
+  pub head-word : eqb (number 8 s at) (n * 65536 + number 2 groupMark 0) ≡ (same (part s at 2) groupMark && eqb (number 6 s (at + 2)) n)
+  head-word = rw group-mark (first (ℕ-discrete (getD s at 0) 0x50) (ℕ-discrete (getD s (at + 1) 0) 0x47) (ℕ-discrete (number 6 s (at + 2)) n))
     where
       first : Dec (getD s at 0 ≡ 0x50) → Dec (getD s (at + 1) 0 ≡ 0x47) → Dec (number 6 s (at + 2) ≡ n)
           → eqb (number 8 s at) (n * 65536 + 0x4750) ≡ (same (part s at 2) groupMark && eqb (number 6 s (at + 2)) n)

@@ -88,10 +88,11 @@ pub fn has_header_mark(s: &[u8], at: usize) -> bool
     has_mark(s, at, b"PT")
 }
 
-// Whether the mark of a group and the number `n` stand in the eight bytes from index `at` on, compared as one word. [S-10]
+// Whether the mark of a group and the number `n` stand in the eight bytes from index `at` on. All eight are compared at once. [S-10]
 pub fn has_group_head(s: &[u8], at: usize, n: u64) -> bool
     requires { ⌜ at + 8 ≤ length (now s) ⌝ }
     ensures { λ r. ⌜ r ≡ (same (part (now (s .entry)) at 2) groupMark && eqb (number 6 (now (s .entry)) (at + 2)) (n % 2 ^ 48)) ⌝ }
 {
-    number(s, at, 8) == n % 0x1_0000_0000_0000 * 0x1_0000 + 0x4750
+    let mark = number(b"PG", 0, 2);
+    number(s, at, 8) == n % 0x1_0000_0000_0000 * 0x1_0000 + mark
 }

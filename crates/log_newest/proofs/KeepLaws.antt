@@ -11,7 +11,7 @@ use lib.Bits.{bitXor, xor-self, xor-shr, xor-add-and, and-le-l, and-le-r}
 use lib.Dec.{eqb}
 use lib.ListN.{take, drop}
 use Rattle.model.specs.Bytes.{part, number, same}
-use Rattle.model.specs.Tag.{tagWord, entryWord, withDisplaced, displaced, homeField, field, readTag, belongs, homeOf}
+use Rattle.model.specs.Tag.{entryWord, withDisplaced, displaced, homeField, field, readTag, belongs, homeOf}
 use Rattle.model.specs.Layout.{groupMark, groupAt, groupValid, topBit, wordThere, entryIn, entryAt}
 use Rattle.model.specs.Commit.{Span, entries, members, writeAll}
 use Rattle.model.specs.Newest.{keep, keepEntry, keepEntries}
@@ -64,10 +64,6 @@ displaced-lt word = omega (arith, field-lt word 57 1)
 
 home-lt : (word : ℕ) → homeField word < 2 ^ 16
 home-lt word = omega (arith, field-lt word 2 12, field-lt word 53 4)
-
-pub plain-next : (plain back k : ℕ) → plain ≡ entryWord 0 back → plain + 0x4000 * k ≡ entryWord 0 (back + k)
-unfolding entryWord tagWord
-plain-next plain back k e = omega (arith, e)
 
 -- the sign of a byte once the turn is added to its top bit
 module _ (b turn : ℕ) (h : turn < 2) where

@@ -37,7 +37,7 @@ refused g code =
       batch = g .batch;
     }
 
--- "Train bytes past the returned length stay." [S-9]
+-- "Train bytes past the returned length stay." [S-7, S-9]
 unfoldable pub done : Given → Effect → Outcome
 done g e =
     record {

@@ -156,6 +156,6 @@ abbrev pub LiveThroughout : World → List Event → Type 0
 LiveThroughout w [] = w .ready ≡ true → Live w
 LiveThroughout w (e ∷ es) = (w .ready ≡ true → Live w) × YieldsAt w e × LiveThroughout (step w e) es
 
--- Demand 2, for the same histories [S-56]
+-- Demand 2, for the same histories [S-35, S-38, S-39, S-40, S-56]
 abbrev pub Demand2 : Type 0
 Demand2 = Always LiveThroughout

@@ -18,7 +18,7 @@ pub record Answering (w : World) (s : Store) : Type 0 where
   pub events : (e : Event) → Allowed w e → AnswersAt w s e
   pub many : w .ready ≡ true → (writer home : ℕ) (blocks batch : List ℕ) → ManyAnswer w s writer home blocks batch
 
--- at the end of every history from a done format on, and so at every moment of it
+-- at the end of every history from a done format on, and so at every moment of it [S-50]
 abbrev pub ActsAnswer : Type 0
 ActsAnswer =
     (groups homes : ℕ) (f : Formatting groups homes) (acts : List Act) → AllActsAllowed (afterFormat f) acts →

@@ -1,5 +1,5 @@
 //! Calls over valid histories with cuts, compared one by one.
-//! Clauses: [S-7, S-24, S-25, S-33, S-34, S-35, S-38, S-50, S-54, S-55, S-56]
+//! Clauses: [S-7, S-20, S-24, S-25, S-33, S-34, S-35, S-38, S-50, S-54, S-55, S-56]
 
 use crate::pair::{runner, Pair};
 use harness::damage::damage_lengths;

@@ -1,5 +1,5 @@
 //! What must hold after a call: demands 2 and 3, and the state in order.
-//! Clauses: [S-4, S-6, S-53, S-54, S-55, S-56]
+//! Clauses: [S-4, S-6, S-51, S-53, S-54, S-55, S-56]
 
 use crate::literal;
 use crate::world::{Call, Odd, World};

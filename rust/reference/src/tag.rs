@@ -130,4 +130,49 @@ mod tests {
         assert_eq!(read_tag(closing_tag(0, 0, 4, 0), 9, 8), Tag::Nothing);
         assert_eq!(read_tag(entry_tag(0, 0) & !1, 9, 8), Tag::Nothing);
     }
+
+    /// A word as document 01 has it: homes of 12 bits, all above bit 52 zero.
+    fn read_small(tag: u64, offset: u32, homes: u32) -> Tag {
+        let bits = |from: u32, count: u32| (tag >> from & ((1 << count) - 1)) as u32;
+        let (home, back, link, count) = (bits(2, 12), bits(14, 13), bits(27, 13), bits(40, 13));
+        if bits(0, 1) == 0 || bits(53, 11) != 0 || home >= homes || back > offset {
+            return Tag::Nothing;
+        }
+        let first = offset - back;
+        match (bits(1, 1), link, count) {
+            (0, 0, 0) => Tag::Entry { home, first },
+            (0, ..) | (1, _, 0) => Tag::Nothing,
+            _ => Tag::Closing { home, first, link, count },
+        }
+    }
+
+    /// Up to 4,096 homes a word without the displaced bit reads as it did: words at random, and words in order with up to two bits changed. [S-16]
+    #[test]
+    fn small_stations() {
+        let mut seed = 1u64;
+        let mut draw = |below: u64| {
+            seed ^= seed << 13;
+            seed ^= seed >> 7;
+            seed ^= seed << 17;
+            seed % below
+        };
+        let mut there = 0;
+        for round in 0..200_000 {
+            let (home, back, link) = (draw(4100), draw(40), draw(40));
+            let mut tag = match round % 3 {
+                0 => draw(u64::MAX),
+                1 => entry_tag(home, back),
+                _ => closing_tag(home, back, link, draw(40)),
+            };
+            for _ in 0..draw(3) {
+                tag ^= 1 << draw(64);
+            }
+            tag = tag & !(1 << DISPLACED_SHIFT);
+            let (offset, homes) = (draw(50) as u32, [1, 8, 4095, 4096][draw(4) as usize]);
+            let read = read_tag(tag, offset, homes);
+            assert_eq!(read, read_small(tag, offset, homes), "tag {tag:#x}, offset {offset}, homes {homes}");
+            there += usize::from(read != Tag::Nothing);
+        }
+        assert!(there > 10_000);
+    }
 }

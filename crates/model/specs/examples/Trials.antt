@@ -4,7 +4,7 @@ use Prim.Native.Nat.{ℕ, zero, suc, _+_, _-_, _*_, _/_, _%_, _^_}
 use mathlib.Core.Bool.{Bool, true, false, cond, not, _&&_}
 use mathlib.Core.List.{List, [], _∷_, _++_}
 use lib.Dec.{eqb, ltb}
-use lib.ListN.{length, getD, drop, replicate}
+use lib.ListN.{length, getD, take, drop, replicate}
 use Rattle.model.specs.Bytes.{puts, zeros, same}
 use Rattle.model.specs.Tag.{closingWord}
 use Rattle.model.specs.Layout.{header, emptyLog, groupAt, groupTag, groupBlock, slotOf, indexOf, homeAt, turnOf}
@@ -241,3 +241,8 @@ trials =
 unfoldable pub allMatch : List Trial → Bool
 allMatch [] = true
 allMatch (t ∷ ts) = same (t .yields) (t .paper) && allMatch ts
+
+-- the rows with some numbers, counted from 0; a row that is not named is not computed
+unfoldable pub rowsAt : List ℕ → List Trial → List Trial
+rowsAt [] ts = []
+rowsAt (n ∷ ns) ts = take 1 (drop n ts) ++ rowsAt ns ts

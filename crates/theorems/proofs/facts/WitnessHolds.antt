@@ -22,7 +22,7 @@ use Rattle.model_laws.proofs.bytes.ByteLaws.{length-puts}
 use Rattle.model_laws.proofs.bytes.LayoutLaws.{three}
 use Rattle.theorems.proofs.steps.FormatRuns.{after-format}
 use Rattle.model.proofs.examples.Computing.{all-definitions}
-use Rattle.model.proofs.examples.HistoryHolds.{goes-as-listed}
+use Rattle.model_tables.proofs.HistoryHolds.{goes-as-listed}
 use Rattle.theorems.proofs.demands.DemandThree.{demand3}
 use Rattle.theorems.proofs.demands.DemandTwo.{demand2}
 use Rattle.theorems.proofs.newest.NewestHolds.{newest-kept}

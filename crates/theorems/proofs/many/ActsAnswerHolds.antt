@@ -48,7 +48,7 @@ module _ (G D : ℕ) (z : Sizes G D) where
         ap (λ (ls : List ℕ). readRight (listSign (w .state)) (homes (lent w blocks batch v h)) ls v x) (list-same w blocks blocks batch batch v v h x)
         ∙ (unfold readAllowed lent in read-right G D z w r s a k blocks batch v x)
 
-    agreeing : Agreeing w s
+    pub agreeing : Agreeing w s
     agreeing =
         let c = r .copies in
         record {

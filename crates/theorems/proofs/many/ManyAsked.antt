@@ -1,33 +1,33 @@
 -- What the calls on several homes are asked, by the abstract store that agrees with the world: all but the batch length of a transact. Assumes nothing.
-use Prim.Native.Nat.{ℕ, zero, suc, _+_, _-_, _*_, _/_, _<_}
-use mathlib.Core.Path.{_≡_, refl, sym, ap, _∙_}
-use mathlib.Core.Bool.{Bool, true, cond, not, _&&_}
-use mathlib.Core.List.{List, []}
+use Prim.Native.Nat.{ℕ, zero, suc, _+_, _*_, _/_, _<_}
+use mathlib.Core.Path.{_≡_, refl, ap, _∙_}
+use mathlib.Core.Bool.{Bool, not, _&&_}
+use mathlib.Core.List.{List}
 use lib.Dec.{eqb, leb, ltb}
 use lib.ListN.{length}
 use borrow.Author.Tests.{ltb-true}
-use Rattle.model.specs.State.{stateOf, promised, places, freePlaces, listSign}
+use Rattle.model.specs.State.{listSign}
 use Rattle.model.specs.Effects.{Given, homes}
 use Rattle.model.specs.Rights.{mayStore, mayRead, storeRight, readRight, readList}
-use Rattle.model.specs.Questions.{ask, areasRight, stateRight, newestRight, stateInOrder, writerKnown, writerOpen, batchFits, readAllowed}
+use Rattle.model.specs.Questions.{ask, writerOpen, batchFits}
 use Rattle.model.specs.History.{World, lent}
 use Rattle.model.specs.NewestTrue.{NewestTrue}
-use Rattle.acts.specs.Many.{blocksLent, blocksRight, homesKnown, allOf, mayStoreAll, mayReadAll, roomForAll, askHomes, fetchAnswer, reviseAnswer, transactAnswer}
-use Rattle.abstract_store.specs.Store.{Store, placesLeft, promisedTo, freeLeft, isIdle, listOf, askBatch}
+use Rattle.acts.specs.Many.{blocksLent, allOf, mayStoreAll, mayReadAll, roomForAll, askHomes, fetchAnswer, reviseAnswer, transactAnswer}
+use Rattle.acts.specs.Replies.{manyBlocks, wholeBlocks, askNamed, askBlocks, Agreeing}
+use Rattle.acts.proofs.RepliesHold.{asked}
+use Rattle.abstract_store.specs.Store.{Store, freeLeft, isIdle, listOf, askBatch}
 use Rattle.theorems.proofs.invariant.Invariant.{Sizes, Running}
-use Rattle.theorems.proofs.store.StoreAgrees.{Agrees, areas-right, state-right, newest-right, state-ordered, lent-homes, open-is, promised-is, places-are, double-not}
+use Rattle.theorems.proofs.store.StoreAgrees.{Agrees}
 use Rattle.theorems.proofs.store.StoreLaws.{ask-same}
-use Rattle.theorems.proofs.rights.RightsHold.{read-right}
-use Rattle.theorems.proofs.rights.ListRights.{rights-same}
-use Rattle.theorems.proofs.many.FetchReads.{list-same}
+use Rattle.theorems.proofs.many.ActsAnswerHolds.{agreeing}
 
 -- whole blocks, from one to seven
-abbrev pub wholeBlocks : List ℕ → Bool
-wholeBlocks blocks = eqb (length blocks) (64 * (length blocks / 64)) && leb 1 (length blocks / 64) && leb (length blocks / 64) 7
+abbrev pub fewBlocks : List ℕ → Bool
+fewBlocks blocks = eqb (length blocks) (64 * (length blocks / 64)) && leb 1 (length blocks / 64) && leb (length blocks / 64) 7
 
 -- the questions of all calls on several homes, and those of a transact but for 9
 abbrev pub askedFirst : Store → ℕ → ℕ → List ℕ → ℕ → ℕ
-askedFirst s v h blocks next = ask (wholeBlocks blocks) 1 (ask (ltb v 8) 4 (ask (leb (h + length blocks / 64) (s .homes)) 5 next))
+askedFirst s v h blocks next = ask (fewBlocks blocks) 1 (ask (ltb v 8) 4 (ask (leb (h + length blocks / 64) (s .homes)) 5 next))
 
 abbrev pub storesAll : Store → ℕ → ℕ → List ℕ → Bool
 storesAll s v h blocks = allOf (mayStore (s .homes) (listOf s) v) h (length blocks / 64)
@@ -49,37 +49,29 @@ module _ (G D : ℕ) (z : Sizes G D) (w : World) (r : Running G D w) (s : Store)
   abbrev g : Given
   g = lent w blocks batch v h
 
+  abbrev p : Agreeing w s
+  p = agreeing G D z w r s a k
+
   homes-asked : (next : ℕ) → askHomes g next ≡ askedFirst s v h blocks next
-  unfolding askHomes blocksRight homesKnown blocksLent
-  homes-asked next =
-      rw (
-        areas-right G D z w r s a blocks batch v h,
-        state-right G D z w r s a blocks batch v h,
-        newest-right G D z w r s a blocks batch v h,
-        state-ordered G D z w r s a blocks batch v h,
-        lent-homes G D z w r s a blocks batch v h,
-        a .homes,
-      )
-      (unfold ask writerKnown lent in refl)
+  homes-asked next = unfold askBlocks askNamed wholeBlocks manyBlocks in asked w s p v h blocks batch next
 
   stores-asked : mayStoreAll g ≡ storesAll s v h blocks
   unfolding mayStoreAll blocksLent lent
   stores-asked =
-      all-same (storeRight (listSign (w .state)) (homes g) (readList g) v) (mayStore (s .homes) (listOf s) v) h (length blocks / 64)
-      (λ x. rights-same w s blocks batch v h x (a .book) (a .homes ∙ sym (r .copies .homes)) k (newest-right G D z w r s a blocks batch v h))
+      all-same (storeRight (listSign (w .state)) (homes g) (readList g) v) (mayStore (s .homes) (listOf s) v) h (length blocks / 64) (p .stores blocks batch v h)
 
   reads-asked : mayReadAll g ≡ readsAll s v h blocks
   unfolding mayReadAll blocksLent lent
   reads-asked =
-      all-same (readRight (listSign (w .state)) (homes g) (readList g) v) (mayRead (s .homes) (listOf s) v) h (length blocks / 64)
-      (λ x. rw (list-same w blocks [] batch [] v v h x) (unfold readAllowed lent in read-right G D z w r s a k [] [] v x))
+      all-same (readRight (listSign (w .state)) (homes g) (readList g) v) (mayRead (s .homes) (listOf s) v) h (length blocks / 64) (p .reads blocks batch v h)
 
   idle-asked : v < 8 → not (writerOpen g) ≡ isIdle (s .book .tasks v)
-  idle-asked l = ap not (open-is G D z w r s a blocks batch v h l) ∙ double-not G D z w r s a (isIdle (s .book .tasks v))
+  unfolding writerOpen lent
+  idle-asked l = p .writers v l
 
   room-asked : roomForAll g ≡ leb (length blocks / 64) (freeLeft s)
-  unfolding roomForAll blocksLent freePlaces freeLeft lent
-  room-asked = rw (places-are G D z w r s a, promised-is G D z w r s a)
+  unfolding roomForAll blocksLent lent
+  room-asked = rw (p .free)
 
   pub fetch-asked : fetchAnswer g ≡ askedFirst s v h blocks (ask (readsAll s v h blocks) 20 0)
   unfolding fetchAnswer
@@ -93,5 +85,5 @@ module _ (G D : ℕ) (z : Sizes G D) (w : World) (r : Running G D w) (s : Store)
   unfolding transactAnswer batchFits askBatch
   transact-asked size =
       homes-asked _
-      ∙ ap (λ (x : ℕ). ask (wholeBlocks blocks) 1 x)
+      ∙ ap (λ (x : ℕ). ask (fewBlocks blocks) 1 x)
       (ask-same (ltb v 8) 4 _ _ (λ l. rw (stores-asked, idle-asked (ltb-true v 8 l), room-asked) (unfold lent in refl)))

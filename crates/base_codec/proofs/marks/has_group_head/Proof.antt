@@ -7,8 +7,14 @@ use Rattle.base_codec.proofs.MarkLaws.{head-word}
 use Rattle.base_codec.proofs.marks.has_group_head.Statement.{statement}
 use Rattle.base_codec.proofs.marks.has_group_head.Tie as tie
 
+slice-aggregate-number : tie.Need-slice-aggregate-number
+slice-aggregate-number c = search needs
+
 number-requires : tie.Need-number-requires
 number-requires c κs = search needs
+
+number-requires-2 : tie.Need-number-requires-2
+number-requires-2 c κs = search needs
 
 mul-result : tie.Need-mul-result
 mul-result c = search needs
@@ -18,9 +24,9 @@ add-result c = search needs
 
 returns : tie.Need-returns
 returns c =
-    let a = c .before .before .args in
-    let byte : (i : ℕ) → getD (a .s .now) i 0 < 256 = λ i. omega (arith, c .before .shared-slice-known .given i) in
-    rw (c .number .ensures .0) (head-word (a .s .now) (a .at) (a .n % 2 ^ 48) (omega arith) byte)
+    let a = c .before .before .before .before .args in
+    let byte : (i : ℕ) → getD (a .s .now) i 0 < 256 = λ i. omega (arith, c .before .before .before .shared-slice-known .given i) in
+    rw (c .number2 .ensures .0, c .before .number .ensures .0) (head-word (a .s .now) (a .at) (a .n % 2 ^ 48) (omega arith) byte)
 
 pub has-group-head-spec : {M : Type 1} → statement M
-has-group-head-spec = tie.close (tie.spec number-requires mul-result add-result returns)
+has-group-head-spec = tie.close (tie.spec slice-aggregate-number number-requires number-requires-2 mul-result add-result returns)

@@ -1,12 +1,12 @@
 -- `log_newest::keep_next` meets its contract. Assumes nothing.
 use mathlib.Core.Path.{_≡_, refl}
-use Prim.Native.Nat.{_+_, _-_, _*_}
+use Prim.Native.Nat.{_-_, _*_}
 use native.Mathlib.Omega.{arith}
 use Rattle.model_laws.proofs.bytes.TagLaws.{entry-fits}
 use Rattle.log_scan.specs.Members.{taking}
 use Rattle.log_scan.proofs.PassLaws.{group-turn}
 use Rattle.log_newest.specs.Keeping.{keepAt}
-use Rattle.log_newest.proofs.KeepLaws.{plain-next}
+use Rattle.model.specs.Tag.{tagWord, entryWord}
 use borrow.Author.Needs.{needs}
 use Rattle.log_newest.proofs.groups.keep_next.Statement.{statement}
 use Rattle.log_newest.proofs.groups.keep_next.Tie as tie
@@ -33,15 +33,14 @@ same-length : tie.Need-same-length
 same-length c = search needs
 
 returns : tie.Need-returns
+unfolding entryWord tagWord
 returns c =
     let k = c .before .before .keep-near .ensures in
-    let p = c .before .before .before .before .before .before .pre in
-    let a = c .before .before .before .before .before .before .args in
-    let e : 7 * a .n + a .k - a .first ≡ 7 * a .n - a .first + a .k = omega (arith, p .4) in (
+    let p = c .before .before .before .before .before .before .pre in (
       k .0,
       λ t groups start before v q.
           group-turn (taking _ keepAt) _ _ _ _ _ _ _ _ _ _ _ _ (v .valid) (v .fits) (p .7) refl refl
-          (k .1 t _ _ (record { word = rw e (plain-next _ _ _ (p .8)); start = v .from; from = omega (arith, p .4); near = omega (arith, p .5, p .7) })) q,
+          (k .1 t _ _ (record { word = omega (arith, p .4, p .8); start = v .from; from = omega (arith, p .4); near = omega (arith, p .5, p .7) })) q,
     )
 
 pub keep-next-spec : {M : Type 1} → statement M

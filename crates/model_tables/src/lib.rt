@@ -1,0 +1,1 @@
+// The longer tables of the crate `model`, computed: theorems only.
