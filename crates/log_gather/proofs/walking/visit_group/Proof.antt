@@ -85,7 +85,7 @@ loop-again c =
     let p = h .before .before .before .before .before .pre in
     let g : groupValid _ _ _ _ ≡ true = sym (h .group-valid .ensures) ∙ not-false _ (l .before .before .if1 .left) in (
       group-turn _ _ _ _ _ _ _ _ _ _ _ _ _ g (p .5) (omega arith) (omega (arith, p)) (v .before .before .before .before .word-there .ensures)
-      (v .visit .ensures _ (l .before .entry-word .ensures)) (l .loop .inv .0),
+          (v .visit .ensures _ (l .before .entry-word .ensures)) (l .loop .inv .0),
       omega arith,
       omega (arith, v .visit .kept, l .loop .inv .2),
       omega (arith, v .visit .kept, l .loop .inv .3),

@@ -45,16 +45,19 @@ returns c =
     let a = c .before .before .before .before .before .before .before .before .args in
     let e = part-none _ _ _ _ _ (p .walkable) (a .w) (empty-word _ _ _ _ _ (p .walkable) _ _ _ (p .chained) _ (p .word) (c .if1 .taken)) (a .from) (a .upto) (p .low) (p .rises) (p .high) in
     let n = none-stepped _ _ _ _ _ (p .walkable) _ e (a .done) (a .area .now) (a .batch .now) (68 * a .done) in
-    record {
-      rises = p .rises;
-      within = omega arith;
-      counted = n .0;
-      most = omega (arith, q .4);
-      full = λ k. absurd (omega (arith, k));
-      lastDone = λ k. absurd (omega (arith, k));
-      copied = n .1;
-      written = n .2;
-    }
+    let z : a .upto - a .upto ≡ 0 = omega arith in (
+      record {
+        rises = p .rises;
+        within = omega arith;
+        counted = n .0;
+        most = omega (arith, q .4);
+        full = λ k. absurd (omega (arith, k));
+        lastDone = λ k. absurd (omega (arith, k));
+        copied = n .1;
+        written = n .2;
+      },
+      sym (rw z (ap length (span-none (touches (a .log .now) (a .groups) (a .homes) (a .start) (a .end)) (a .upto)))),
+    )
 
 slice-aggregate-newest-in : tie.Need-slice-aggregate-newest-in Inv-loop μ-loop
 slice-aggregate-newest-in c = refl
@@ -76,16 +79,27 @@ loop-holds c =
     (a .batch .now) (68 * a .done) in
     (n .1, n .2, n .0, omega arith, p .rises, omega (arith, q .4), (λ k. absurd (omega (arith, k))), q .3, refl)
 
+slice-aggregate-codes-left : tie.Need-slice-aggregate-codes-left Inv-loop μ-loop
+slice-aggregate-codes-left c = sym (c .before .before .before .before .before .newest-in .ensures .each)
+
+codes-left-requires : tie.Need-codes-left-requires Inv-loop μ-loop
+codes-left-requires c κs =
+    let p = c .before .before .before .before .before .before .before .before .before .before .before .before .before .before .before .pre .0 in
+    let i = c .before .before .before .loop .inv in
+    (c .before .before .before .before .before .newest-in .ensures .each, p .word, omega (arith, p .low, i .3), i .4, p .high)
+
 same-length : tie.Need-same-length Inv-loop μ-loop
-same-length c = omega (arith, c .before .before .loop .inv .7, c .before .before .before .before .before .before .before .before .before .before .before .before .before .before .pre .3)
+same-length c = omega (arith, c .before .before .before .before .loop .inv .7, c .before .before .before .before .before .before .before .before .before .before .before .before .before .before .before .before .pre .3)
 
 same-length-2 : tie.Need-same-length-2 Inv-loop μ-loop
-same-length-2 c = c .before .before .loop .inv .8
+same-length-2 c = c .before .before .before .before .loop .inv .8
 
 returns-2 : tie.Need-returns-2 Inv-loop μ-loop
 returns-2 c =
-    let i = c .before .before .loop .inv in
-    record { rises = i .3; within = i .4; counted = i .2; most = i .5; full = λ k. c .if2 .taken; lastDone = i .6; copied = i .0; written = i .1 }
+    let i = c .before .before .before .before .loop .inv in (
+      record { rises = i .3; within = i .4; counted = i .2; most = i .5; full = λ k. c .before .before .if2 .taken; lastDone = i .6; copied = i .0; written = i .1 },
+      c .codes-left .ensures _ _ _ _ _ _ (c .before .before .before .before .before .before .before .before .before .before .before .before .before .before .before .before .pre .0 .walkable) (c .before .before .before .before .before .before .newest-in .ensures),
+    )
 
 sub-code : tie.Need-sub-code Inv-loop μ-loop
 sub-code c = omega (arith, c .before .before .before .before .before .before .before .before .before .before .before .before .before .before .pre .0 .low, c .before .before .loop .inv .3)
@@ -151,8 +165,13 @@ same-length-4 c = c .before .loop .inv .8
 
 returns-3 : tie.Need-returns-3 Inv-loop μ-loop
 returns-3 c =
-    let i = c .before .loop .inv in
-    record { rises = i .3; within = i .4; counted = i .2; most = i .5; full = λ k. absurd (omega (arith, k, c .loop-test .left)); lastDone = i .6; copied = i .0; written = i .1 }
+    let l = c .before .loop in
+    let i = l .inv in
+    let a = c .before .before .before .before .before .before .before .before .before .before .before .before .before .args in
+    let z : a .upto - l .h ≡ 0 = omega (arith, c .loop-test .left, i .4) in (
+      record { rises = i .3; within = i .4; counted = i .2; most = i .5; full = λ k. absurd (omega (arith, k, c .loop-test .left)); lastDone = i .6; copied = i .0; written = i .1 },
+      sym (rw z (ap length (span-none (touches (a .log .now) (a .groups) (a .homes) (a .start) (a .end)) (l .h)))),
+    )
 
 pub bring-part-spec : {M : Type 1} → statement M
 bring-part-spec =
@@ -167,6 +186,8 @@ bring-part-spec =
     newest-in-requires
     mul-base
     loop-holds
+    slice-aggregate-codes-left
+    codes-left-requires
     same-length
     same-length-2
     returns-2
