@@ -7,6 +7,7 @@ use log_scan::Progress;
 ghost use mathlib.Core.Path.{_≡_};
 ghost use Prim.Native.Nat.{ℕ, _+_, _-_, _*_, _^_, _≤_, _<_};
 ghost use mathlib.Core.Bool.{true, _&&_};
+ghost use mathlib.Core.List.{List};
 ghost use lib.Dec.{eqb};
 ghost use lib.ListN.{length, getD};
 ghost use Rattle.model.specs.Tag.{entryWord, field, homeField, readTag};
@@ -15,7 +16,7 @@ ghost use Rattle.model.specs.Commit.{committed};
 ghost use Rattle.model_laws.proofs.rule.Closings.{endOf};
 ghost use Rattle.log_scan.specs.Scan.{over};
 ghost use Rattle.log_gather.specs.Chains.{Roomy, Empty, Chained};
-ghost use Rattle.log_gather.specs.Walks.{closerIn, strayed, joinEntry, joinClosing, join, Passed};
+ghost use Rattle.log_gather.specs.Walks.{closerIn, Dropped, strayed, joinEntry, joinClosing, join, Passed};
 
 // What the offset of a closing entry in a cell is added to.
 const CLOSED: u16 = 0x8000;
@@ -182,7 +183,7 @@ fn visit_closing(
     )
 }
 
-// Takes what the word of a tag says at index `index` of the log, unless the walk has stopped.
+// Takes what the word of a tag says at index `index` of the log.
 fn visit(
     word: u64,
     above: u64,
@@ -193,7 +194,7 @@ fn visit(
     links: &mut [u16],
     progress: Progress,
 ) -> Progress
-    requires { ⌜ (index < 7168) × (base < 2 ^ 61) × (index < length (now cells)) × (progress .end ≤ base + index)
+    requires { ⌜ (index < 7168) × (base < 2 ^ 61) × (index < length (now cells)) × (progress .failed ≡ 0) × (progress .end ≤ base + index)
         × (progress .number ≤ base + index)
         × Roomy 0 (length (now cells)) (now cells) (now heads) (now links) ⌝ }
     ensures { λ r. ⌜ ((homes : ℕ) → above ≡ entryWord homes 0
@@ -201,9 +202,6 @@ fn visit(
         ≡ join base (base + index) (readTag word (base + index) base homes)
         (record { cells = now (cells .entry); heads = now (heads .entry); links = now (links .entry); progress = progress })) ⌝ }
 {
-    if progress.failed != 0 {
-        return progress;
-    }
     if base_codec::is_plain(word) {
         return visit_plain(word, above, base, index, cells, heads, links, progress);
     }
@@ -213,7 +211,7 @@ fn visit(
     progress
 }
 
-// Takes the first `m` tags of a group, which says nothing where it is not the valid group with number `n` and turn `turn`.
+// Takes the first `m` tags of a group, or those before the walk stops. The group says nothing where it is not the valid group with number `n` and turn `turn`.
 fn visit_group(
     group: &[u8],
     groups: u64,
@@ -229,7 +227,7 @@ fn visit_group(
 ) -> Progress
     requires { ⌜ (length (now group) ≡ 512) × (groups ≤ 1024) × (start ≤ 2 ^ 47) × (start ≤ n) × (n < start + groups)
         × (turn ≡ turnOf groups n) × (m ≤ 7)
-        × (progress .end ≤ 7 * n) × (progress .number ≤ 7 * n) × (7 * groups ≤ length (now cells))
+        × (progress .failed ≡ 0) × (progress .end ≤ 7 * n) × (progress .number ≤ 7 * n) × (7 * groups ≤ length (now cells))
         × Roomy homes (length (now cells)) (now cells) (now heads) (now links) ⌝ }
     ensures { λ r. ⌜ record { cells = now (cells .exit); heads = now (heads .exit); links = now (links .exit); progress = r }
         ≡ over (join (7 * start)) (entryIn (now (group .entry)) groups homes start) (7 * n) m
@@ -254,6 +252,9 @@ fn visit_group(
             links,
             reached,
         );
+        if reached.failed != 0 {
+            return reached;
+        }
         k += 1;
     }
     reached
@@ -317,16 +318,54 @@ fn closer_in(cell: u16) -> u16
     if cell < CLOSED { 0 } else { cell - CLOSED }
 }
 
-// Leaves in the first `n` cells, where all others are 0, only the closing entries, and no counts.
+// Leaves in a cell only a closing entry, where the cells before it hold no counts.
+fn drop_one(cells: &mut [u16], k: usize)
+    requires { ⌜ k < length (now cells) ⌝ }
+    ensures { λ _. ⌜ ((before : List ℕ) (i : ℕ) → i ≡ k → Dropped before i (now (cells .entry)) → Dropped before (i + 1) (now (cells .exit))) ⌝ }
+{
+    cells[k] = closer_in(cells[k]);
+}
+
+// The same for the eight cells from `k` on, in a row.
+fn drop_eight(cells: &mut [u16], k: usize)
+    requires { ⌜ k + 8 ≤ length (now cells) ⌝ }
+    ensures { λ _. ⌜ ((before : List ℕ) → Dropped before k (now (cells .entry)) → Dropped before (k + 8) (now (cells .exit))) ⌝ }
+{
+    drop_one(cells, k);
+    drop_one(cells, k + 1);
+    drop_one(cells, k + 2);
+    drop_one(cells, k + 3);
+    drop_one(cells, k + 4);
+    drop_one(cells, k + 5);
+    drop_one(cells, k + 6);
+    drop_one(cells, k + 7);
+}
+
+// The same for the cells from `from` to below `n`, where all others from there on are 0.
+fn drop_rest(cells: &mut [u16], from: usize, n: usize)
+    requires { ⌜ (from ≤ n) × (n ≤ length (now cells)) ⌝ }
+    ensures { λ _. ⌜ ((before : List ℕ) → Dropped before from (now (cells .entry)) → Dropped before n (now (cells .exit))) ⌝ }
+{
+    let mut k = from;
+    while k < n {
+        drop_one(cells, k);
+        k += 1;
+    }
+}
+
+// Leaves in the first `n` cells, where all others are 0, only the closing entries, and no counts, eight at a time.
 fn drop_counts(cells: &mut [u16], n: usize)
     requires { ⌜ (n ≤ length (now cells)) × ((i : ℕ) → n ≤ i → getD (now cells) i 0 ≡ 0) ⌝ }
     ensures { λ _. ⌜ ((i : ℕ) → getD (now (cells .exit)) i 0 ≡ closerIn (getD (now (cells .entry)) i 0)) ⌝ }
 {
     let mut k: usize = 0;
-    while k < n {
-        cells[k] = closer_in(cells[k]);
-        k += 1;
+    let mut left = n;
+    while left >= 8 {
+        drop_eight(cells, k);
+        k += 8;
+        left -= 8;
     }
+    drop_rest(cells, k, n)
 }
 
 // Walks the `n` positions of the log from its start on with empty tables, and finds where the committed transactions end and how many they are, their

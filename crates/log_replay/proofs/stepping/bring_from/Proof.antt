@@ -126,7 +126,7 @@ returns-3 c =
     let t = stepped-on _ _ _ _ _ (q .0) _ _ _ _ _ _ _ _ _ _ _ _ _ _ (i .0) (i .1) (i .2) (i .3) (i .5) (i .6) (sym (c .before .before .before .if2 .taken)) (s .0) in (
       t,
       left-later _ _ _ _ _ (q .0) _ _ _ _ _ _ (t .rises) (s .0 .within) (c .before .before .before .before .before .before .before .before .before .before .before .before .word-end .ensures .1) refl (omega (arith, t .counted))
-      (sym (s .1) ∙ c .before .if3 .left) (c .count-from2 .ensures .0) (c .count-from2 .ensures .1),
+          (sym (s .1) ∙ c .before .if3 .left) (c .count-from2 .ensures .0) (c .count-from2 .ensures .1),
     )
 
 loop-less : tie.Need-loop-less Inv-loop μ-loop
