@@ -21,6 +21,7 @@ use Rattle.model_laws.proofs.bytes.ByteLaws.{puts-append, puts-nil}
 use Rattle.model_laws.proofs.trace.HomeLaws.{In, in-marked}
 use Rattle.base_bitmap.specs.Marks.{raised}
 use Rattle.base_bitmap.proofs.MarkedLaws.{raised-nil, raised-cons, raised-append, length-raised, marked-zero, marked-same, marked-none, marked-add, marked-up-to, length-marked}
+use Rattle.base_bitmap.proofs.WordLaws.{no-bits}
 use Rattle.base_batch.specs.Within.{Within}
 use Rattle.base_batch.proofs.HomeLaws.{bytes-append, bytes-nil, bytes-cons, length-writes, within-right, within-marked}
 use Rattle.log_scan.specs.Walk.{Walkable, closedBelow}
@@ -28,7 +29,7 @@ use Rattle.log_replay.specs.Best.{offsetCode}
 use Rattle.log_replay.specs.Words.{Newest, touches, wordHomes}
 use Rattle.log_replay.specs.Restore.{restored, placeOf, newestAt}
 use Rattle.log_replay.specs.Steps.{span, Stepped, Left}
-use Rattle.log_replay.proofs.RestoreLaws.{touches-above, touches-below, touched-some, length-restored, restored-nil, restored-append, restored-out, raised-in, writes-same}
+use Rattle.log_replay.proofs.RestoreLaws.{word-bits, touches-above, touches-below, touched-some, length-restored, restored-nil, restored-append, restored-out, raised-in, writes-same}
 
 -- ---- by a code: none, or one more
 
@@ -121,6 +122,11 @@ module _ (f : ℕ → Bool) where
   unfolding span
   length-span from n = omega (arith, length-raised from (marked (λ j. f (from + j)) n), length-marked (λ j. f (from + j)) n)
 
+  -- a whole word
+  pub word-span : (i from upto : ℕ) → 64 * i ≤ from → from ≤ upto → upto ≤ 64 * i + 64 → upto - from ≡ 64 → wordHomes f i ≡ span f from (upto - from)
+  unfolding span
+  word-span i from upto l k u e = let z : from ≡ 64 * i = omega arith in rw (e, z)
+
   pub length-on : (from m h : ℕ) → from ≤ m → m ≤ h → length (span f from (h - from)) ≡ length (span f from (m - from)) + length (span f m (h - m))
   length-on from m h l k = ap length (span-on from m h l k) ∙ length-append (span f from (m - from)) (span f m (h - m))
 
@@ -186,6 +192,10 @@ module _ (log : List ℕ) (groups homes start end : ℕ) (w : Walkable log group
         go : (b : Bool) → eqb code 0 ≡ b → cond b 0 1 ≡ length (cond (f h) (h ∷ []) [])
         go true e = rw (code-zero (eqb-true code 0 e))
         go false e = rw (code-some (eqb-false code 0 e) .0)
+
+  -- a word with no home marked
+  pub no-touched : (i : ℕ) (table : List ℕ) (bits : ℕ) → Newest log groups homes start end i table bits → bits ≡ 0 → wordHomes f i ≡ []
+  no-touched i table bits n e = sym (word-bits log groups homes start end w i table bits n) ∙ rw (e, no-bits, raised-nil)
 
   -- homes of a word that touches none
   pub part-none : (i : ℕ) → wordHomes f i ≡ [] → (from upto : ℕ) → 64 * i ≤ from → from ≤ upto → upto ≤ 64 * i + 64

@@ -49,7 +49,7 @@ fn restore_word(
 }
 
 // Brings the touched homes of word `w` back into the data copy, and writes their records at an index of the batch; returns the index past them.
-fn bring_word(
+pub fn bring_word(
     log: &[u8],
     area: &mut [u8],
     batch: &mut [u8],

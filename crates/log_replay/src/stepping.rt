@@ -1,6 +1,7 @@
 // A round's step: the touched homes from a cursor on, home by home. Those of a word that come before the cursor, or after the last one that the step
 // brings back, stay as they are.
 use super::places::restore_block;
+use super::restore::bring_word;
 use super::words::newest_in;
 ghost use mathlib.Core.Path.{_≡_};
 ghost use mathlib.Core.Bool.{true, cond};
@@ -173,6 +174,7 @@ fn bring_home(
 }
 
 // Brings the touched homes from `from` to below `upto` back, all of word `w`, until `limit` are done in all, and counts those that are left of them.
+// A whole word that cannot reach the limit is brought back as settle does it.
 fn bring_part(
     log: &[u8],
     area: &mut [u8],
@@ -205,8 +207,32 @@ fn bring_part(
             rest: 0,
         };
     }
+    if upto - from == 64 {
+        if limit - done > 64 {
+            let at = bring_word(
+                log,
+                area,
+                batch,
+                68 * done as usize,
+                last,
+                heads,
+                links,
+                w,
+                groups,
+                homes,
+                start,
+                end,
+                slot,
+            );
+            return Reached {
+                home: upto,
+                done: at as u64 / 68,
+                rest: 0,
+            };
+        }
+    }
     let mut table = [0u16; 64];
-    newest_in(
+    let bits = newest_in(
         log,
         last,
         heads,
@@ -219,6 +245,13 @@ fn bring_part(
         end,
         slot,
     );
+    if bits == 0 {
+        return Reached {
+            home: upto,
+            done,
+            rest: 0,
+        };
+    }
     let base = 64 * w as u64;
     let mut n = done;
     let mut h = from;
