@@ -1,7 +1,7 @@
 // A round's step: the touched homes from a cursor on, home by home. Those of a word that come before the cursor, or after the last one that the step
 // brings back, stay as they are.
 use super::places::restore_block;
-use super::restore::bring_word;
+use super::restore::bring_chain;
 use super::words::newest_in;
 ghost use mathlib.Core.Path.{_≡_};
 ghost use mathlib.Core.Bool.{true, cond};
@@ -209,7 +209,7 @@ fn bring_part(
     }
     if upto - from == 64 {
         if limit - done > 64 {
-            let at = bring_word(
+            let at = bring_chain(
                 log,
                 area,
                 batch,

@@ -65,11 +65,11 @@ sub-if2 c = omega (arith, c .before .before .before .before .before .before .bef
 sub-if3 : tie.Need-sub-if3 Inv-loop μ-loop
 sub-if3 c = omega (arith, c .before .before .before .before .before .before .before .before .before .pre .4)
 
-mul-bring-word : tie.Need-mul-bring-word Inv-loop μ-loop
-mul-bring-word c = omega (arith, c .before .before .before .before .before .before .before .before .before .before .before .before .pre .4, c .before .before .before .before .before .before .before .before .before .before .before .before .pre .5)
+mul-bring-chain : tie.Need-mul-bring-chain Inv-loop μ-loop
+mul-bring-chain c = omega (arith, c .before .before .before .before .before .before .before .before .before .before .before .before .pre .4, c .before .before .before .before .before .before .before .before .before .before .before .before .pre .5)
 
-bring-word-requires : tie.Need-bring-word-requires Inv-loop μ-loop
-bring-word-requires c κs =
+bring-chain-requires : tie.Need-bring-chain-requires Inv-loop μ-loop
+bring-chain-requires c κs =
     let q = c .before .before .before .before .before .before .before .before .before .before .before .before .pre in
     let p = q .0 in
     let a = c .before .before .before .before .before .before .before .before .before .before .before .before .args in
@@ -78,17 +78,17 @@ bring-word-requires c κs =
     (p .walkable, q .2, p .chained, p .word, p .at, q .3, omega (arith, ap length e, n, q .6, c .before .before .if3 .taken, c .before .before .before .if2 .taken))
 
 same-length : tie.Need-same-length Inv-loop μ-loop
-same-length c = omega (arith, c .before .before .before .before .bring-word .kept)
+same-length c = omega (arith, c .before .before .before .before .bring-chain .kept)
 
 same-length-2 : tie.Need-same-length-2 Inv-loop μ-loop
-same-length-2 c = omega (arith, c .before .before .before .before .bring-word .kept)
+same-length-2 c = omega (arith, c .before .before .before .before .bring-chain .kept)
 
 returns-2 : tie.Need-returns-2 Inv-loop μ-loop
 returns-2 c =
     let q = c .before .before .before .before .before .before .before .before .before .before .before .before .before .before .before .before .before .pre in
     let p = q .0 in
     let a = c .before .before .before .before .before .before .before .before .before .before .before .before .before .before .before .before .before .args in
-    let b = c .before .before .before .before .bring-word .ensures in
+    let b = c .before .before .before .before .bring-chain .ensures in
     let e = word-span (touches (a .log .now) (a .groups) (a .homes) (a .start) (a .end)) (a .w) (a .from) (a .upto) (p .low) (p .rises) (p .high) (c .before .before .before .before .before .before .before .before .if2 .taken) in
     let n = length-span (touches (a .log .now) (a .groups) (a .homes) (a .start) (a .end)) (a .from) (a .upto - a .from) in
     let z : a .upto - a .upto ≡ 0 = omega arith in (
@@ -251,8 +251,8 @@ bring-part-spec =
     returns
     sub-if2
     sub-if3
-    mul-bring-word
-    bring-word-requires
+    mul-bring-chain
+    bring-chain-requires
     same-length
     same-length-2
     returns-2
