@@ -175,7 +175,7 @@ fn bring_home(
 
 // Brings the touched homes from `from` to below `upto` back, all of word `w`, until `limit` are done in all, and counts those that are left of them.
 // A whole word that cannot reach the limit is brought back as settle does it.
-fn bring_part(
+fn bring_part_of(
     log: &[u8],
     area: &mut [u8],
     batch: &mut [u8],
@@ -200,13 +200,6 @@ fn bring_part(
         (now (area .exit)) (now (batch .exit)) ⌝ }
     ensures { λ r. ⌜ r .rest ≡ length (span (touches (now (log .entry)) groups homes start end) (r .home) (upto - r .home)) ⌝ }
 {
-    if heads[w] == 0 {
-        return Reached {
-            home: upto,
-            done,
-            rest: 0,
-        };
-    }
     if upto - from == 64 {
         if limit - done > 64 {
             let at = bring_chain(
@@ -272,6 +265,59 @@ fn bring_part(
         done: n,
         rest: 0,
     }
+}
+
+// The same, at once where the word has no entry.
+fn bring_part(
+    log: &[u8],
+    area: &mut [u8],
+    batch: &mut [u8],
+    last: &[u16],
+    heads: &[u16],
+    links: &[u16],
+    w: usize,
+    from: u64,
+    upto: u64,
+    groups: u64,
+    homes: u64,
+    start: u64,
+    end: u64,
+    slot: u64,
+    done: u64,
+    limit: u64,
+) -> Reached
+    requires { ⌜ Part (now log) (now last) (now heads) (now links) w from upto groups homes start end slot × (upto ≤ homes) × (homes ≤ 65535)
+        × (length (now area) ≡ 64 * homes) × (done < limit) × (limit ≤ 65535) × (68 * limit ≤ length (now batch)) ⌝ }
+    ensures { λ r. ⌜ Stepped (now (log .entry)) groups homes start end from upto done limit (now (area .entry)) (now (batch .entry))
+        (r .home) (r .done)
+        (now (area .exit)) (now (batch .exit)) ⌝ }
+    ensures { λ r. ⌜ r .rest ≡ length (span (touches (now (log .entry)) groups homes start end) (r .home) (upto - r .home)) ⌝ }
+{
+    if heads[w] == 0 {
+        return Reached {
+            home: upto,
+            done,
+            rest: 0,
+        };
+    }
+    bring_part_of(
+        log,
+        area,
+        batch,
+        last,
+        heads,
+        links,
+        w,
+        from,
+        upto,
+        groups,
+        homes,
+        start,
+        end,
+        slot,
+        done,
+        limit,
+    )
 }
 
 // Brings the first `limit` touched homes from the cursor on back into the data copy, or all of them, and writes their records at the batch's
