@@ -24,6 +24,7 @@ while read -r case call positions most; do
     printf '%-20s %12s %8s.%s %12s\n' "$case" "$cost" $((cost / positions)) $((cost * 10 / positions % 10)) "$([ "$most" -gt 0 ] && echo "$most" || echo -)"
     case $case in
     settle-*) settle=$cost ;;
+    step-all-* | step-few) ;;
     step-*) [ "$cost" -le "${settle:-$cost}" ] || over="$over $case" ;;
     esac
     [ "$most" -eq 0 ] || [ "$cost" -le "$most" ] || over="$over $case"
