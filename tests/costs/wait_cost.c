@@ -12,12 +12,14 @@
 
 enum { MOST_GROUPS = KAGUTIN_MAX_GROUPS, MOST_HOMES = 65535, PLACES = 7, OWNER = 1, OTHER = 0, TWO_HOMES = 20, SMALL_STEP = 8 };
 
-enum call { SETTLE, STEP, ROUND, READ, COMMIT, TRIM };
+/* Steps are of 8 homes, of one, or of all. */
+enum call { SETTLE, STEP, STEP_ONE, STEP_ALL, ROUND, READ, COMMIT, TRIM };
 
-/* How the log is filled: commits of four blocks; commits of four blocks by eight writers in turn; a log only damage makes, each
-   entry closing a transaction that began at the first; one entry of an open transaction and then another writer's, for all homes
-   or two; the open transaction's own, for all homes or two; one commit. */
-enum fill { COMMITS, EIGHT, SHARED, OTHERS, OTHERS_TWO, OWN, OWN_TWO, ONE };
+/* How the log is filled: commits of four blocks; commits of four blocks by eight writers in turn; two logs only damage makes, one
+   where each entry closes a transaction that began at the first, one where the last entry alone comes after its transaction's
+   closing one; one entry of an open transaction and then another writer's, for all homes or two; the open transaction's own, for
+   all homes or two; one commit. */
+enum fill { COMMITS, EIGHT, SHARED, STRAY, OTHERS, OTHERS_TWO, OWN, OWN_TWO, ONE };
 
 static const struct wait {
     const char *name;
@@ -26,19 +28,42 @@ static const struct wait {
     size_t groups, homes;
     unsigned long most;
 } waits[] = {
-    {"settle-1024-4096", SETTLE, EIGHT, 1024, 4096, 1450000},
-    {"step-1024-4096", STEP, EIGHT, 1024, 4096, 700000},
-    {"round-1024-4096", ROUND, EIGHT, 1024, 4096, 360000000},
-    {"settle-1024-64", SETTLE, EIGHT, 1024, 64, 1130000},
-    {"step-1024-64", STEP, EIGHT, 1024, 64, 1570000},
-    {"round-1024-64", ROUND, EIGHT, 1024, 64, 6300000},
-    {"settle-64-64", SETTLE, EIGHT, 64, 64, 72000},
-    {"step-64-64", STEP, EIGHT, 64, 64, 99000},
-    {"round-64-64", ROUND, EIGHT, 64, 64, 395000},
-    {"settle-shared-64", SETTLE, SHARED, 1024, 64, 1420000},
-    {"step-shared-64", STEP, SHARED, 1024, 64, 1860000},
-    {"settle-shared-4096", SETTLE, SHARED, 1024, 4096, 1740000},
-    {"step-shared-4096", STEP, SHARED, 1024, 4096, 980000},
+    {"settle-64-64", SETTLE, EIGHT, 64, 64, 49900},
+    {"step-64-64", STEP, EIGHT, 64, 64, 48700},
+    {"step-one-64-64", STEP_ONE, EIGHT, 64, 64, 48300},
+    {"step-all-64-64", STEP_ALL, EIGHT, 64, 64, 50200},
+    {"round-64-64", ROUND, EIGHT, 64, 64, 194000},
+    {"settle-64-1024", SETTLE, EIGHT, 64, 1024, 84300},
+    {"step-64-1024", STEP, EIGHT, 64, 1024, 31900},
+    {"step-one-64-1024", STEP_ONE, EIGHT, 64, 1024, 31400},
+    {"step-all-64-1024", STEP_ALL, EIGHT, 64, 1024, 85000},
+    {"settle-1024-64", SETTLE, EIGHT, 1024, 64, 776000},
+    {"step-1024-64", STEP, EIGHT, 1024, 64, 775000},
+    {"step-all-1024-64", STEP_ALL, EIGHT, 1024, 64, 776000},
+    {"round-1024-64", ROUND, EIGHT, 1024, 64, 3100000},
+    {"settle-1024-4096", SETTLE, EIGHT, 1024, 4096, 1100000},
+    {"step-1024-4096", STEP, EIGHT, 1024, 4096, 499000},
+    {"step-one-1024-4096", STEP_ONE, EIGHT, 1024, 4096, 499000},
+    {"step-all-1024-4096", STEP_ALL, EIGHT, 1024, 4096, 1110000},
+    {"round-1024-4096", ROUND, EIGHT, 1024, 4096, 255000000},
+    {"settle-1024-65535", SETTLE, EIGHT, 1024, 65535, 1450000},
+    {"step-1024-65535", STEP, EIGHT, 1024, 65535, 498000},
+    {"step-one-1024-65535", STEP_ONE, EIGHT, 1024, 65535, 496000},
+    {"step-all-1024-65535", STEP_ALL, EIGHT, 1024, 65535, 1490000},
+    {"settle-shared-64", SETTLE, SHARED, 1024, 64, 1270000},
+    {"step-shared-64", STEP, SHARED, 1024, 64, 1270000},
+    {"step-all-shared-64", STEP_ALL, SHARED, 1024, 64, 1270000},
+    {"settle-shared-4096", SETTLE, SHARED, 1024, 4096, 1590000},
+    {"step-shared-4096", STEP, SHARED, 1024, 4096, 986000},
+    {"step-all-shared-4096", STEP_ALL, SHARED, 1024, 4096, 1590000},
+    {"settle-stray-64", SETTLE, STRAY, 1024, 64, 1550000},
+    {"step-stray-64", STEP, STRAY, 1024, 64, 1550000},
+    {"step-all-stray-64", STEP_ALL, STRAY, 1024, 64, 1550000},
+    {"settle-stray-4096", SETTLE, STRAY, 1024, 4096, 1880000},
+    {"step-stray-4096", STEP, STRAY, 1024, 4096, 1280000},
+    {"step-all-stray-4096", STEP_ALL, STRAY, 1024, 4096, 1880000},
+    {"settle-few", SETTLE, ONE, 1024, 65535, 36300},
+    {"step-few", STEP_ALL, ONE, 1024, 65535, 50200},
     {"read-others", READ, OTHERS, 1024, 4096, 71680},
     {"read-others-home", READ, OTHERS_TWO, 1024, 4096, 71680},
     {"read-own", READ, OWN, 1024, 4096, 71680},
@@ -154,6 +179,21 @@ static void share_first(void)
     }
 }
 
+/* The last entry once more of the first one's transaction, which is closed. */
+static void stray_last(void)
+{
+    uint64_t offset = PLACES * groups - 1;
+
+    put_number(log_area + KAGUTIN_HEADER_SIZE + KAGUTIN_GROUP_SIZE * (offset / PLACES) + 8 + 8 * (offset % PLACES),
+               1 | UINT64_C(1) << 2 | offset << 14);
+}
+
+/* Whether the call is a step or a round. */
+static bool steps(enum call call)
+{
+    return call >= STEP && call <= ROUND;
+}
+
 /* Fills the log and makes what comes before the call that counts. */
 static void prepare(const struct wait *wait)
 {
@@ -168,7 +208,9 @@ static void prepare(const struct wait *wait)
     fence();
     if (wait->fill == SHARED)
         share_first();
-    if (wait->call == STEP || wait->call == ROUND)
+    if (wait->fill == STRAY)
+        stray_last();
+    if (steps(wait->call))
         done(kagutin_begin_round(AREAS, STATE));
     if (wait->call == TRIM) {
         done(kagutin_settle(AREAS, STATE, BATCH));
@@ -176,9 +218,9 @@ static void prepare(const struct wait *wait)
     }
 }
 
-static struct kagutin_reply step(void)
+static struct kagutin_reply step(uint64_t most)
 {
-    return kagutin_step_round(AREAS, STATE, BATCH, SMALL_STEP);
+    return kagutin_step_round(AREAS, STATE, BATCH, most);
 }
 
 /* All steps of a round. */
@@ -187,7 +229,7 @@ static struct kagutin_reply all_steps(void)
     struct kagutin_reply reply;
 
     do
-        reply = step();
+        reply = step(SMALL_STEP);
     while (reply.code == KAGUTIN_DONE && reply.size % KAGUTIN_HW_SIZE == 0);
     return reply;
 }
@@ -198,7 +240,9 @@ struct kagutin_reply counted(enum call call)
 {
     switch (call) {
     case SETTLE: return kagutin_settle(AREAS, STATE, BATCH);
-    case STEP: return step();
+    case STEP: return step(SMALL_STEP);
+    case STEP_ONE: return step(1);
+    case STEP_ALL: return step(UINT64_MAX);
     case ROUND: return all_steps();
     case READ: return kagutin_read(AREAS, STATE, NEWEST, block, sizeof block, OWNER, TWO_HOMES);
     case COMMIT: return kagutin_commit(AREAS, STATE, NEWEST, BATCH, OWNER);
@@ -219,7 +263,8 @@ static int run(const struct wait *wait)
 
 int main(int count, char **words)
 {
-    static const char *const calls[] = {"settle", "step_round", "step_round", "read", "commit", "trim"};
+    static const char *const calls[] = {"settle",     "step_round", "step_round", "step_round",
+                                        "step_round", "read",       "commit",     "trim"};
     size_t i;
 
     for (i = 0; i < sizeof waits / sizeof waits[0]; i++) {

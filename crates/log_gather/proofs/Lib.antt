@@ -4,3 +4,4 @@ pub mod EndLaws
 pub mod TableLaws
 pub mod WalkLaws
 pub mod WalkSteps
+pub mod WordVisits

@@ -17,7 +17,7 @@ use Rattle.model_laws.proofs.rule.ClosingLaws.{lastAt}
 use Rattle.log_scan.specs.Scan.{decided, taken, over}
 use Rattle.log_scan.specs.declared.commits.Progress.{Progress}
 use Rattle.log_gather.specs.Chains.{maxWords, Empty}
-use Rattle.log_gather.specs.Walks.{Walk, closedMark, closerIn, begun, strayed, stopped, joined, joinEntry, joinJudged, joinClosing, joinTag, join}
+use Rattle.log_gather.specs.Walks.{Walk, closedMark, closerIn, Dropped, begun, strayed, stopped, joined, joinEntry, joinJudged, joinClosing, joinTag, join}
 use Rattle.log_gather.proofs.TableLaws.{stopped-progress}
 
 -- what bounds the numbers of a walk that has come to a position
@@ -97,12 +97,17 @@ join-quiet base p g = go (eqb (g .progress .failed) 0)
     go true = refl
     go false = refl
 
+-- a pass that has stopped takes no more
+pub over-held : (tags : ℕ → Tag) (base position n j : ℕ) (g d : Walk) → d ≡ over (join base) tags position n g → (d .progress .failed ≡ 0 → ⊥)
+    → d ≡ over (join base) tags position (n + j) g
+unfolding over join
+over-held tags base position n zero g d e h = let z : n + 0 ≡ n = omega arith in rw z e
+over-held tags base position n (suc j) g d e h =
+    let z : n + suc j ≡ suc (n + j) = omega arith in
+    rw (z, ← over-held tags base position n j g d e h, ne-eqb (d .progress .failed) 0 h)
+
 -- a tag t, which says r, is taken into the pass
 module _ (base position : ℕ) (g : Walk) (r t : Tag) (e : t ≡ r) where
-  pub join-held : (g .progress .failed ≡ 0 → ⊥) → g ≡ join base position r g
-  unfolding join
-  join-held h = rw (ne-eqb (g .progress .failed) 0 h)
-
   module _ (z : g .progress .failed ≡ 0) where
     pub join-nothing : t ≡ Nothing → g ≡ join base position r g
     unfolding join joinTag
@@ -167,18 +172,21 @@ none-joined tags base m groups cells heads links z e =
 
 -- ---- counts are dropped
 
--- the first k cells hold closing entries only, and the others are as they were
-abbrev pub Dropped : List ℕ → ℕ → List ℕ → Type 0
-Dropped cells₀ k cells =
-    ((i : ℕ) → i < k → getD cells i 0 ≡ closerIn (getD cells₀ i 0)) × ((i : ℕ) → k ≤ i → getD cells i 0 ≡ getD cells₀ i 0)
-
 pub drop-more : (cells₀ cells : List ℕ) (k v : ℕ) → k < length cells → v ≡ closerIn (getD cells k 0) → Dropped cells₀ k cells
     → Dropped cells₀ (k + 1) (set cells k v)
-drop-more cells₀ cells k v l e d = (λ i m. below i m (ℕ-discrete i k), λ i m. getD-set-other cells k i v 0 (λ z. omega arith) ∙ d .1 i (omega arith))
+drop-more cells₀ cells k v l e d =
+    record { done = λ i m. below i m (ℕ-discrete i k); later = λ i m. getD-set-other cells k i v 0 (λ z. omega arith) ∙ d .later i (omega arith) }
   where
     below : (i : ℕ) → i < k + 1 → Dec (i ≡ k) → getD (set cells k v) i 0 ≡ closerIn (getD cells₀ i 0)
-    below i m (yes z) = rw z (getD-set-same cells k v 0 l ∙ e ∙ ap closerIn (d .1 k (omega arith)))
-    below i m (no z) = getD-set-other cells k i v 0 z ∙ d .0 i (omega arith)
+    below i m (yes z) = rw z (getD-set-same cells k v 0 l ∙ e ∙ ap closerIn (d .later k (omega arith)))
+    below i m (no z) = getD-set-other cells k i v 0 z ∙ d .done i (omega arith)
+
+pub drop-next : (cells₀ cells : List ℕ) (k i v : ℕ) → k < length cells → v ≡ closerIn (getD cells k 0) → i ≡ k → Dropped cells₀ i cells
+    → Dropped cells₀ (i + 1) (set cells k v)
+drop-next cells₀ cells k i v l q e d = rw (← e) (drop-more cells₀ cells i v (omega arith) (rw e q) d)
+
+pub drop-same : (cells₀ cells : List ℕ) (i j : ℕ) → j ≡ i → Dropped cells₀ i cells → Dropped cells₀ j cells
+drop-same cells₀ cells i j e d = rw e d
 
 pub drop-all : (cells₀ cells : List ℕ) (n k : ℕ) → ((i : ℕ) → n ≤ i → getD cells₀ i 0 ≡ 0) → k ≡ n → Dropped cells₀ k cells
     → (i : ℕ) → getD cells i 0 ≡ closerIn (getD cells₀ i 0)
@@ -188,8 +196,8 @@ drop-all cells₀ cells n k z e d i = go (decLt i k)
     none = unfold closerIn in refl
 
     go : Dec (i < k) → getD cells i 0 ≡ closerIn (getD cells₀ i 0)
-    go (yes l) = d .0 i l
-    go (no l) = let q : getD cells₀ i 0 ≡ 0 = z i (omega arith) in d .1 i (omega arith) ∙ q ∙ sym (ap closerIn q ∙ none)
+    go (yes l) = d .done i l
+    go (no l) = let q : getD cells₀ i 0 ≡ 0 = z i (omega arith) in d .later i (omega arith) ∙ q ∙ sym (ap closerIn q ∙ none)
 
 pub closer-counts : (cell : ℕ) → cell < closedMark → 0 ≡ closerIn cell
 unfolding closerIn

@@ -32,6 +32,11 @@ cellOf count last = cond (eqb last 0) count (closedMark + last)
 unfoldable pub closerIn : ℕ → ℕ
 closerIn cell = cond (ltb cell closedMark) 0 (cell - closedMark)
 
+-- the first k cells hold closing entries only, and the others are as they were
+pub record Dropped (before : List ℕ) (k : ℕ) (cells : List ℕ) : Type 0 where
+  pub done : (i : ℕ) → i < k → getD cells i 0 ≡ closerIn (getD before i 0)
+  pub later : (i : ℕ) → k ≤ i → getD cells i 0 ≡ getD before i 0
+
 -- empty tables for `size` positions
 unfoldable pub begun : ℕ → Walk
 begun size =

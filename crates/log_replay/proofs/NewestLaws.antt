@@ -1,16 +1,17 @@
 -- The newest entries of one word's homes along its chain: what lies between two entries changes nothing, each entry is taken as the definition
 -- says, and at the chain's end the newest ones are found. Assumes nothing.
 use mathlib.Core.Path.{_≡_, refl, sym, ap, _∙_}
-use mathlib.Core.Bool.{Bool, true, false, cond}
+use mathlib.Core.Bool.{Bool, true, false, cond, false≢true}
 use mathlib.Core.List.{List}
-use Prim.Native.Nat.{ℕ, zero, suc, _+_, _-_, _*_, _/_, _%_, _≤_, _<_}
+use Prim.Native.Nat.{ℕ, zero, suc, _+_, _-_, _*_, _/_, _%_, _^_, _≤_, _<_}
 use native.Mathlib.Decide.{ℕ-discrete}
 use native.Mathlib.Omega.{arith}
 use borrow.Author.Tests.{eq-eqb, ne-eqb, eqb-true, eqb-false, lt-ltb, le-ltb, ltb-true}
 use lib.Dec.{eqb, ltb}
 use lib.ListN.{length, getD, set, replicate, length-set, length-replicate}
 use lib.Seq.{getD-set-same, getD-set-other}
-use Rattle.model.specs.Tag.{present}
+use Rattle.model.specs.Tag.{present, field, homeField, readTag}
+use Rattle.model_laws.proofs.bytes.TagLaws.{entry-fields, entry-known, closing-fields, closing-known}
 use Rattle.model.specs.Layout.{entryAt}
 use Rattle.model.specs.Commit.{newest}
 use Rattle.model.specs.declared.Tag.{Tag}
@@ -167,6 +168,41 @@ module _ (last : List ℕ) (base i : ℕ) (g : Word) (r t : Tag) (e : t ≡ r) w
   pub take-closing : (h f link count : ℕ) (d : Word) → t ≡ Closing h f link count → d ≡ takenIn last h (f - base) i g → d ≡ take last base i r g
   unfolding take
   take-closing h f link count d q k = rw (← e, q) k
+
+-- a home's index in its word, by its low bits
+same-place : (q low high h k : ℕ) → low ≡ q % 2 ^ 12 → h ≡ low + 2 ^ 12 * high → k ≡ q % 2 ^ 6 → h % 64 ≡ k % 64
+same-place q low high h k x y z = omega arith
+
+-- the word of an entry r that is there
+module _ (base i word homes : ℕ) (r : Tag) (e : readTag word (base + i) base homes ≡ r) (there : present r ≡ true) where
+  pub word-begun : field word 14 13 ≤ i
+  unfolding present
+  word-begun = go r e there
+    where
+      go : (t : Tag) → readTag word (base + i) base homes ≡ t → present t ≡ true → field word 14 13 ≤ i
+      go Nothing q p = absurd (false≢true p)
+      go (Entry h f) q p = omega (arith, entry-fields word (base + i) base homes h f q, entry-known word (base + i) base homes h f q)
+      go (Closing h f link count) q p =
+          omega (arith, closing-fields word (base + i) base homes h f link count q, closing-known word (base + i) base homes h f link count q)
+
+  pub word-taken : (last : List ℕ) (g : Word) (k back : ℕ) (d : Word) → k ≡ word / 2 ^ 2 % 2 ^ 6 → back ≡ field word 14 13
+      → d ≡ takenIn last k (i - back) i g → d ≡ take last base i r g
+  unfolding present take takenIn
+  word-taken last g k back d a b c = go r e there
+    where
+      same : (h f : ℕ) → h ≡ homeField word → f + field word 14 13 ≡ base + i → base ≤ f → d ≡ takenIn last h (f - base) i g
+      same h f x y z =
+          let u : h % 64 ≡ k % 64 = same-place (word / 2 ^ 2) (field word 2 12) (field word 53 4) h k (unfold field in refl) x a in
+          let v : f - base ≡ i - back = omega arith in
+          rw (u, v) c
+
+      go : (t : Tag) → readTag word (base + i) base homes ≡ t → present t ≡ true → d ≡ take last base i t g
+      go Nothing q p = absurd (false≢true p)
+      go (Entry h f) q p =
+          let x = entry-fields word (base + i) base homes h f q in same h f (x .0) (x .1) (entry-known word (base + i) base homes h f q .1)
+      go (Closing h f link count) q p =
+          let x = closing-fields word (base + i) base homes h f link count q in
+          same h f (x .0) (x .1) (closing-known word (base + i) base homes h f link count q .1)
 
 -- a tag t of the log
 module _ (log : List ℕ) (groups homes start p : ℕ) (t : Tag) (e : t ≡ entryAt log groups homes start p) where

@@ -7,9 +7,9 @@ use native.Mathlib.Nat.{mod-eq-of-lt, mod-eq-sub-mod, mod-add-mod}
 use native.Mathlib.Omega.{arith}
 use lib.Dec.{eqb}
 use lib.ListN.{take, drop}
-use Rattle.model.specs.Bytes.{puts}
+use Rattle.model.specs.Bytes.{number, puts}
 use Rattle.model.specs.Tag.{present, readTag}
-use Rattle.model.specs.Layout.{groupAt, groupTag, groupBlock, groupValid, turnOf, topBit, slotOf, indexOf, wordThere, entryIn, blockOf, entryAt, blockAt, putHome}
+use Rattle.model.specs.Layout.{groupAt, groupTag, tagOffset, groupBlock, groupValid, turnOf, topBit, slotOf, indexOf, wordThere, entryIn, blockOf, entryAt, blockAt, putHome}
 use Rattle.model.specs.declared.Tag.{Tag}
 use Rattle.model.specs.declared.Tag.the-variants.{Nothing}
 use Rattle.model_laws.proofs.bytes.TagLaws.{read-zero}
@@ -58,6 +58,12 @@ module _ (log : List ℕ) (groups homes start offset slot from : ℕ) (s : slot 
       go true true h = refl
       go true false h = let z : present (read 0) ≡ false = ap present (read-zero (7 * start + offset) (7 * start) homes) in absurd (false≢true (sym z ∙ h))
       go false c h = absurd (false≢true h)
+
+-- the word of a tag by its number
+pub word-read : (group : List ℕ) (k word position base homes : ℕ) → word ≡ number 8 group (8 + 8 * k)
+    → readTag word position base homes ≡ readTag (groupTag group k) position base homes
+unfolding groupTag tagOffset
+word-read group k word position base homes e = rw e
 
 -- ---- the block at an offset
 

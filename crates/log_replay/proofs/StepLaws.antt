@@ -21,14 +21,15 @@ use Rattle.model_laws.proofs.bytes.ByteLaws.{puts-append, puts-nil}
 use Rattle.model_laws.proofs.trace.HomeLaws.{In, in-marked}
 use Rattle.base_bitmap.specs.Marks.{raised}
 use Rattle.base_bitmap.proofs.MarkedLaws.{raised-nil, raised-cons, raised-append, length-raised, marked-zero, marked-same, marked-none, marked-add, marked-up-to, length-marked}
+use Rattle.base_bitmap.proofs.WordLaws.{no-bits}
 use Rattle.base_batch.specs.Within.{Within}
 use Rattle.base_batch.proofs.HomeLaws.{bytes-append, bytes-nil, bytes-cons, length-writes, within-right, within-marked}
 use Rattle.log_scan.specs.Walk.{Walkable, closedBelow}
 use Rattle.log_replay.specs.Best.{offsetCode}
 use Rattle.log_replay.specs.Words.{Newest, touches, wordHomes}
 use Rattle.log_replay.specs.Restore.{restored, placeOf, newestAt}
-use Rattle.log_replay.specs.Steps.{span, Stepped}
-use Rattle.log_replay.proofs.RestoreLaws.{touches-above, touches-below, touched-some, length-restored, restored-nil, restored-append, restored-out, raised-in, writes-same}
+use Rattle.log_replay.specs.Steps.{span, Stepped, Left}
+use Rattle.log_replay.proofs.RestoreLaws.{word-bits, touches-above, touches-below, touched-some, length-restored, restored-nil, restored-append, restored-out, raised-in, writes-same}
 
 -- ---- by a code: none, or one more
 
@@ -121,6 +122,11 @@ module _ (f : ℕ → Bool) where
   unfolding span
   length-span from n = omega (arith, length-raised from (marked (λ j. f (from + j)) n), length-marked (λ j. f (from + j)) n)
 
+  -- a whole word
+  pub word-span : (i from upto : ℕ) → 64 * i ≤ from → from ≤ upto → upto ≤ 64 * i + 64 → upto - from ≡ 64 → wordHomes f i ≡ span f from (upto - from)
+  unfolding span
+  word-span i from upto l k u e = let z : from ≡ 64 * i = omega arith in rw (e, z)
+
   pub length-on : (from m h : ℕ) → from ≤ m → m ≤ h → length (span f from (h - from)) ≡ length (span f from (m - from)) + length (span f m (h - m))
   length-on from m h l k = ap length (span-on from m h l k) ∙ length-append (span f from (m - from)) (span f m (h - m))
 
@@ -186,6 +192,10 @@ module _ (log : List ℕ) (groups homes start end : ℕ) (w : Walkable log group
         go : (b : Bool) → eqb code 0 ≡ b → cond b 0 1 ≡ length (cond (f h) (h ∷ []) [])
         go true e = rw (code-zero (eqb-true code 0 e))
         go false e = rw (code-some (eqb-false code 0 e) .0)
+
+  -- a word with no home marked
+  pub no-touched : (i : ℕ) (table : List ℕ) (bits : ℕ) → Newest log groups homes start end i table bits → bits ≡ 0 → wordHomes f i ≡ []
+  no-touched i table bits n e = sym (word-bits log groups homes start end w i table bits n) ∙ rw (e, no-bits, raised-nil)
 
   -- homes of a word that touches none
   pub part-none : (i : ℕ) → wordHomes f i ≡ [] → (from upto : ℕ) → 64 * i ≤ from → from ≤ upto → upto ≤ 64 * i + 64
@@ -318,6 +328,56 @@ module _ (log : List ℕ) (groups homes start end : ℕ) (w : Walkable log group
           let z : length (span f from (home - from)) ≡ 0 = rw e (ap length (span-none f from)) in
           let q : n ≡ limit = s .full (omega arith) in
           absurd (omega (arith, s .counted, z, q))
+
+  -- a part of a step that follows others, which did not reach the limit
+  pub stepped-on : (cursor h upto n limit : ℕ) (area₀ batch₀ area batch : List ℕ) (home m k : ℕ) (a b : List ℕ)
+      → area ≡ restored log groups at (span f cursor (h - cursor)) area₀
+      → batch ≡ puts batch₀ 0 (batchBytes (homeWrites area (span f cursor (h - cursor))))
+      → n ≡ length (span f cursor (h - cursor)) → cursor ≤ h → n < limit → length area ≡ 64 * homes → k ≡ m
+      → Stepped log groups homes start end h upto n limit area batch home m a b
+      → Stepped log groups homes start end cursor home 0 limit area₀ batch₀ home k a b
+  stepped-on cursor h upto n limit area₀ batch₀ area batch home m k a b x y z l j size e s =
+      let q : 0 + 68 * length (span f cursor (h - cursor)) ≡ 68 * n = omega (arith, z) in
+      record {
+        rises = omega (arith, l, s .rises);
+        within = omega arith;
+        counted = omega (arith, e, s .counted, z, length-on f cursor h home l (s .rises));
+        most = omega (arith, e, s .most);
+        full = λ u. absurd (omega (arith, u));
+        lastDone = λ u v. (let d = s .lastDone (omega (arith, v, e, j)) (omega (arith, v, e)) in (omega (arith, d .0, l), d .1));
+        copied = copied-on cursor h home l (s .rises) area₀ area a x (s .copied);
+        written = written-on cursor h home l (s .rises) area a batch₀ batch b 0 size (s .copied) y (rw q (s .written));
+      }
+
+  -- one that does not reach the limit comes to its end
+  pub stepped-whole : (from upto done limit : ℕ) (area batch : List ℕ) (home n : ℕ) (a b : List ℕ)
+      → Stepped log groups homes start end from upto done limit area batch home n a b → (n ≡ limit → ⊥) → home ≡ upto
+  stepped-whole from upto done limit area batch home n a b s k = go (decLt home upto)
+    where
+      go : Dec (home < upto) → home ≡ upto
+      go (yes d) = absurd (k (s .full d))
+      go (no d) = omega (arith, s .within)
+
+  -- what is left of the homes from the cursor on: some of the last word, those of later words, or none
+  module _ (cursor home upto limit m rest : ℕ) (l : cursor ≤ home) (k : home ≤ upto) (u : upto ≤ homes) (e : m ≡ limit)
+      (c : m ≡ length (span f cursor (home - cursor))) where
+    lengths : length (span f cursor (homes - cursor))
+        ≡ m + length (span f home (upto - home)) + length (span f upto (homes - upto))
+    lengths = omega (arith, c, length-on f cursor home homes l (omega arith), length-on f home upto homes k u)
+
+    pub left-here : rest ≡ length (span f home (upto - home)) → (rest ≡ 0 → ⊥) → Left f homes cursor limit m rest
+    left-here r z = record { all = λ q. absurd (z q); some = λ q. e; most = omega (arith, lengths, r) }
+
+    pub left-later : length (span f home (upto - home)) ≡ 0 → (rest ≤ 0 → rest ≡ length (span f upto (homes - upto)))
+        → rest ≤ length (span f upto (homes - upto)) → Left f homes cursor limit m rest
+    left-later r z q = record { all = λ o. omega (arith, lengths, r, o, z (omega (arith, o))); some = λ o. e; most = omega (arith, lengths, r, q) }
+
+  pub left-none : (cursor limit n : ℕ) → n ≡ length (span f cursor (homes - cursor)) → Left f homes cursor limit n 0
+  left-none cursor limit n e = record { all = λ z. e; some = λ z. absurd (omega (arith, z)); most = omega (arith, e) }
+
+  pub left-all : (cursor limit rest : ℕ) → limit ≡ 0 → (rest ≤ 0 → rest ≡ length (span f cursor (homes - cursor)))
+      → rest ≤ length (span f cursor (homes - cursor)) → Left f homes cursor limit 0 rest
+  left-all cursor limit rest e z q = record { all = λ o. omega (arith, o, z (omega (arith, o))); some = λ o. omega (arith, e); most = omega (arith, q) }
 
   -- ---- the step as a whole
 

@@ -41,3 +41,10 @@ pub record Stepped (log : List ℕ) (groups homes start end from upto done limit
       a ≡ restored log groups (newestAt log groups homes start end) (span (touches log groups homes start end) from (home - from)) area
   pub written :
       b ≡ puts batch (68 * done) (batchBytes (homeWrites a (span (touches log groups homes start end) from (home - from))))
+
+-- of the homes from the cursor on that a test marks, at most `limit` are done; more were seen only where the limit is reached, and none only where all
+-- are done
+pub record Left (f : ℕ → Bool) (homes cursor limit done rest : ℕ) : Type 0 where
+  pub all : rest ≡ 0 → done ≡ length (span f cursor (homes - cursor))
+  pub some : 0 < rest → done ≡ limit
+  pub most : done + rest ≤ length (span f cursor (homes - cursor))

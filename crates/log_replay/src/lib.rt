@@ -6,6 +6,7 @@ mod stepping;
 mod words;
 
 pub use restore::bring_back;
+pub use stepping::Reached;
 pub use stepping::bring_from;
 pub use stepping::count_from;
 pub use words::count;

@@ -1,12 +1,11 @@
 // Places of the log by their offset from its start, where `slot` is the ring slot of the start.
 use base_codec::GROUP_SIZE;
 use base_codec::HEADER_SIZE;
-use model::Tag;
 ghost use mathlib.Core.Path.{_≡_};
 ghost use mathlib.Core.Bool.{true};
-ghost use Prim.Native.Nat.{_+_, _*_, _%_, _^_, _≤_, _<_};
+ghost use Prim.Native.Nat.{ℕ, _+_, _*_, _%_, _^_, _≤_, _<_};
 ghost use lib.ListN.{length};
-ghost use Rattle.model.specs.Tag.{present};
+ghost use Rattle.model.specs.Tag.{present, readTag};
 ghost use Rattle.model.specs.Layout.{entryAt, blockAt, putHome};
 
 // The ring slot that lies `n` slots after `slot`.
@@ -18,17 +17,16 @@ fn slot_after(slot: u64, n: u64, groups: u64) -> u64
     if next < groups { next } else { next - groups }
 }
 
-// What the log says at an offset where there is an entry.
-pub fn entry_from(log: &[u8], groups: u64, homes: u64, start: u64, slot: u64, offset: u64) -> Tag
+// The word of the tag at an offset, which says what the log does where there is an entry.
+pub fn word_from(log: &[u8], groups: u64, start: u64, slot: u64, offset: u64) -> u64
     requires { ⌜ (length (now log) ≡ 64 + 512 * groups) × (groups ≤ 1024) × (0 < groups) × (start ≤ 2 ^ 47) × (offset < 7 * groups)
-        × (slot ≡ start % groups)
-        × (present (entryAt (now log) groups homes start (7 * start + offset)) ≡ true) ⌝ }
-    ensures { λ r. ⌜ r ≡ entryAt (now (log .entry)) groups homes start (7 * start + offset) ⌝ }
+        × (slot ≡ start % groups) ⌝ }
+    ensures { λ r. ⌜ ((homes : ℕ) → present (entryAt (now (log .entry)) groups homes start (7 * start + offset)) ≡ true
+        → readTag r (7 * start + offset) (7 * start) homes ≡ entryAt (now (log .entry)) groups homes start (7 * start + offset)) ⌝ }
 {
-    let base = 7 * start;
     let from = HEADER_SIZE + GROUP_SIZE * slot_after(slot, offset / 7, groups) as usize;
     let group = &log[from..from + GROUP_SIZE];
-    log_scan::tag_in(group, (offset % 7) as usize, base + offset, base, homes)
+    base_codec::number(group, 8 + 8 * (offset % 7) as usize, 8)
 }
 
 // Copies the block that the entry at an offset gives to a home.

@@ -49,6 +49,51 @@ fn restore_word(
 }
 
 // Brings the touched homes of word `w` back into the data copy, and writes their records at an index of the batch; returns the index past them.
+pub fn bring_chain(
+    log: &[u8],
+    area: &mut [u8],
+    batch: &mut [u8],
+    at: usize,
+    last: &[u16],
+    heads: &[u16],
+    links: &[u16],
+    w: usize,
+    groups: u64,
+    homes: u64,
+    start: u64,
+    end: u64,
+    slot: u64,
+) -> usize
+    requires { ⌜ Walkable (now log) groups start end × (homes ≤ 65535) × Chained (now log) groups homes start end (now last) (now heads) (now links)
+        × (w < 1024) × (slot ≡ start % groups) × (length (now area) ≡ 64 * homes)
+        × (at + 68 * length (wordHomes (touches (now log) groups homes start end) w) ≤ length (now batch)) ⌝ }
+    ensures { λ r. ⌜ r ≡ at + 68 * length (wordHomes (touches (now (log .entry)) groups homes start end) w) ⌝ }
+    ensures { λ _. ⌜ now (area .exit)
+        ≡ restored (now (log .entry)) groups (newestAt (now (log .entry)) groups homes start end)
+        (wordHomes (touches (now (log .entry)) groups homes start end) w) (now (area .entry)) ⌝ }
+    ensures { λ _. ⌜ now (batch .exit)
+        ≡ puts (now (batch .entry)) at
+        (batchBytes (homeWrites (now (area .exit)) (wordHomes (touches (now (log .entry)) groups homes start end) w))) ⌝ }
+{
+    let mut table = [0u16; 64];
+    let bits = newest_in(
+        log,
+        last,
+        heads,
+        links,
+        &mut table,
+        w,
+        groups,
+        homes,
+        start,
+        end,
+        slot,
+    );
+    restore_word(log, area, &table, groups, start, slot, bits, 64 * w);
+    base_batch::emit_word(batch, at, bits, 64 * w, area)
+}
+
+// The same, at once where the word has no entry.
 fn bring_word(
     log: &[u8],
     area: &mut [u8],
@@ -78,22 +123,21 @@ fn bring_word(
     if heads[w] == 0 {
         return at;
     }
-    let mut table = [0u16; 64];
-    let bits = newest_in(
+    bring_chain(
         log,
+        area,
+        batch,
+        at,
         last,
         heads,
         links,
-        &mut table,
         w,
         groups,
         homes,
         start,
         end,
         slot,
-    );
-    restore_word(log, area, &table, groups, start, slot, bits, 64 * w);
-    base_batch::emit_word(batch, at, bits, 64 * w, area)
+    )
 }
 
 // Replays the transactions that close below `end` into the data copy, and writes the records of the homes that they touch at the batch's beginning.

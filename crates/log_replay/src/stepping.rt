@@ -1,10 +1,12 @@
 // A round's step: the touched homes from a cursor on, home by home. Those of a word that come before the cursor, or after the last one that the step
 // brings back, stay as they are.
 use super::places::restore_block;
+use super::restore::bring_chain;
 use super::words::newest_in;
 ghost use mathlib.Core.Path.{_≡_};
 ghost use mathlib.Core.Bool.{true, cond};
-ghost use Prim.Native.Nat.{_+_, _-_, _*_, _/_, _%_, _^_, _≤_, _<_};
+ghost use mathlib.Core.List.{List};
+ghost use Prim.Native.Nat.{ℕ, _+_, _-_, _*_, _/_, _%_, _^_, _≤_, _<_};
 ghost use lib.Dec.{eqb};
 ghost use lib.ListN.{length};
 ghost use Rattle.model.specs.Bytes.{puts};
@@ -13,14 +15,16 @@ ghost use Rattle.model.specs.Batch.{HW, recordBytes, batchBytes};
 ghost use Rattle.model.specs.Effects.{marked, homeWrites};
 ghost use Rattle.log_scan.specs.Walk.{Walkable};
 ghost use Rattle.log_gather.specs.Chains.{Chained};
-ghost use Rattle.log_replay.specs.Words.{touches};
+ghost use Rattle.log_replay.specs.Words.{Newest, touches};
 ghost use Rattle.log_replay.specs.Restore.{restored, newestAt};
-ghost use Rattle.log_replay.specs.Steps.{span, Part, Stepped};
+ghost use Rattle.log_replay.specs.Steps.{span, Part, Stepped, Left};
 
-// How far a step has come: the home after the last one that it looked at, and how many it has brought back.
+// How far a step has come: the home after the last one that it looked at, how many it has brought back, and how many touched homes it has seen
+// from there on.
 pub struct Reached {
     pub home: u64,
     pub done: u64,
+    pub rest: u64,
 }
 
 // 1 if a code of the table says that its home has a newest entry, 0 if not.
@@ -28,6 +32,23 @@ fn one_if(code: u16) -> u64
     ensures { λ r. ⌜ r ≡ cond (eqb code 0) 0 1 ⌝ }
 {
     if code == 0 { 0 } else { 1 }
+}
+
+// How many of the homes from `from` to below `upto`, all of word `w`, are touched, by the table of the word's newest entries.
+fn codes_left(table: &[u16], w: usize, from: u64, upto: u64) -> u64
+    requires { ⌜ (length (now table) ≡ 64) × (w < 1024) × (64 * w ≤ from) × (from ≤ upto) × (upto ≤ 64 * w + 64) ⌝ }
+    ensures { λ r. ⌜ ((log : List ℕ) (groups homes start end bits : ℕ) → Walkable log groups start end
+        → Newest log groups homes start end w (now (table .entry)) bits
+        → r ≡ length (span (touches log groups homes start end) from (upto - from))) ⌝ }
+{
+    let base = 64 * w as u64;
+    let mut n = 0;
+    let mut h = from;
+    while h < upto {
+        n += one_if(table[(h - base) as usize]);
+        h += 1;
+    }
+    n
 }
 
 // How many of the homes from `from` to below `upto`, all of word `w`, are touched.
@@ -65,14 +86,7 @@ fn count_part(
         end,
         slot,
     );
-    let base = 64 * w as u64;
-    let mut n = 0;
-    let mut h = from;
-    while h < upto {
-        n += one_if(table[(h - base) as usize]);
-        h += 1;
-    }
-    n
+    codes_left(&table, w, from, upto)
 }
 
 // The end of the homes of the word that a home is in, or of all homes.
@@ -159,7 +173,101 @@ fn bring_home(
     done + 1
 }
 
-// Brings the touched homes from `from` to below `upto` back, all of word `w`, until `limit` are done in all.
+// Brings the touched homes from `from` to below `upto` back, all of word `w`, until `limit` are done in all, and counts those that are left of them.
+// A whole word that cannot reach the limit is brought back as settle does it.
+fn bring_part_of(
+    log: &[u8],
+    area: &mut [u8],
+    batch: &mut [u8],
+    last: &[u16],
+    heads: &[u16],
+    links: &[u16],
+    w: usize,
+    from: u64,
+    upto: u64,
+    groups: u64,
+    homes: u64,
+    start: u64,
+    end: u64,
+    slot: u64,
+    done: u64,
+    limit: u64,
+) -> Reached
+    requires { ⌜ Part (now log) (now last) (now heads) (now links) w from upto groups homes start end slot × (upto ≤ homes) × (homes ≤ 65535)
+        × (length (now area) ≡ 64 * homes) × (done < limit) × (limit ≤ 65535) × (68 * limit ≤ length (now batch)) ⌝ }
+    ensures { λ r. ⌜ Stepped (now (log .entry)) groups homes start end from upto done limit (now (area .entry)) (now (batch .entry))
+        (r .home) (r .done)
+        (now (area .exit)) (now (batch .exit)) ⌝ }
+    ensures { λ r. ⌜ r .rest ≡ length (span (touches (now (log .entry)) groups homes start end) (r .home) (upto - r .home)) ⌝ }
+{
+    if upto - from == 64 {
+        if limit - done > 64 {
+            let at = bring_chain(
+                log,
+                area,
+                batch,
+                68 * done as usize,
+                last,
+                heads,
+                links,
+                w,
+                groups,
+                homes,
+                start,
+                end,
+                slot,
+            );
+            return Reached {
+                home: upto,
+                done: at as u64 / 68,
+                rest: 0,
+            };
+        }
+    }
+    let mut table = [0u16; 64];
+    let bits = newest_in(
+        log,
+        last,
+        heads,
+        links,
+        &mut table,
+        w,
+        groups,
+        homes,
+        start,
+        end,
+        slot,
+    );
+    if bits == 0 {
+        return Reached {
+            home: upto,
+            done,
+            rest: 0,
+        };
+    }
+    let base = 64 * w as u64;
+    let mut n = done;
+    let mut h = from;
+    while h < upto {
+        if n == limit {
+            return Reached {
+                home: h,
+                done: n,
+                rest: codes_left(&table, w, h, upto),
+            };
+        }
+        let code = table[(h - base) as usize];
+        n = bring_home(log, area, batch, code, groups, start, slot, h as usize, n);
+        h += 1;
+    }
+    Reached {
+        home: h,
+        done: n,
+        rest: 0,
+    }
+}
+
+// The same, at once where the word has no entry.
 fn bring_part(
     log: &[u8],
     area: &mut [u8],
@@ -183,40 +291,37 @@ fn bring_part(
     ensures { λ r. ⌜ Stepped (now (log .entry)) groups homes start end from upto done limit (now (area .entry)) (now (batch .entry))
         (r .home) (r .done)
         (now (area .exit)) (now (batch .exit)) ⌝ }
+    ensures { λ r. ⌜ r .rest ≡ length (span (touches (now (log .entry)) groups homes start end) (r .home) (upto - r .home)) ⌝ }
 {
     if heads[w] == 0 {
-        return Reached { home: upto, done };
+        return Reached {
+            home: upto,
+            done,
+            rest: 0,
+        };
     }
-    let mut table = [0u16; 64];
-    newest_in(
+    bring_part_of(
         log,
+        area,
+        batch,
         last,
         heads,
         links,
-        &mut table,
         w,
+        from,
+        upto,
         groups,
         homes,
         start,
         end,
         slot,
-    );
-    let base = 64 * w as u64;
-    let mut n = done;
-    let mut h = from;
-    while h < upto {
-        if n == limit {
-            return Reached { home: h, done: n };
-        }
-        let code = table[(h - base) as usize];
-        n = bring_home(log, area, batch, code, groups, start, slot, h as usize, n);
-        h += 1;
-    }
-    Reached { home: h, done: n }
+        done,
+        limit,
+    )
 }
 
-// Brings the first `limit` touched homes from the cursor on back into the data copy, and writes their records at the batch's beginning;
-// returns the home after the last of them, if there is one.
+// Brings the first `limit` touched homes from the cursor on back into the data copy, or all of them, and writes their records at the batch's
+// beginning; says where it has come, and whether touched homes are left. Each word's chain is gone along once.
 pub fn bring_from(
     log: &[u8],
     area: &mut [u8],
@@ -230,20 +335,36 @@ pub fn bring_from(
     end: u64,
     cursor: u64,
     limit: u64,
-) -> u64
+) -> Reached
     requires { ⌜ Walkable (now log) groups start end × (homes ≤ 65535) × Chained (now log) groups homes start end (now last) (now heads) (now links)
-        × (length (now area) ≡ 64 * homes) × (68 * limit ≤ length (now batch))
-        × (limit ≤ length (span (touches (now log) groups homes start end) cursor (homes - cursor))) ⌝ }
-    ensures { λ r. ⌜ Stepped (now (log .entry)) groups homes start end cursor r 0 limit (now (area .entry)) (now (batch .entry)) r limit
+        × (length (now area) ≡ 64 * homes) × (68 * limit ≤ length (now batch)) × (limit ≤ 65535) ⌝ }
+    ensures { λ r. ⌜ Stepped (now (log .entry)) groups homes start end cursor (r .home) 0 limit (now (area .entry)) (now (batch .entry))
+        (r .home) (r .done)
         (now (area .exit)) (now (batch .exit)) ⌝ }
+    ensures { λ r. ⌜ Left (touches (now (log .entry)) groups homes start end) homes cursor limit (r .done) (r .rest) ⌝ }
 {
+    if limit == 0 {
+        return Reached {
+            home: cursor,
+            done: 0,
+            rest: count_from(
+                log,
+                last,
+                heads,
+                links,
+                groups,
+                homes,
+                start,
+                end,
+                cursor,
+                0,
+            ),
+        };
+    }
     let slot = log_scan::first_slot(start, groups).slot;
     let mut n = 0;
     let mut h = cursor;
     while h < homes {
-        if n == limit {
-            return h;
-        }
         let upto = word_end(h, homes);
         let reached = bring_part(
             log,
@@ -263,8 +384,22 @@ pub fn bring_from(
             n,
             limit,
         );
+        if reached.done == limit {
+            if reached.rest != 0 {
+                return reached;
+            }
+            return Reached {
+                home: reached.home,
+                done: limit,
+                rest: count_from(log, last, heads, links, groups, homes, start, end, upto, 0),
+            };
+        }
         n = reached.done;
-        h = reached.home;
+        h = upto;
     }
-    h
+    Reached {
+        home: h,
+        done: n,
+        rest: 0,
+    }
 }

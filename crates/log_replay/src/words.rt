@@ -1,9 +1,8 @@
 // The newest committed entries of one word of homes, by its chain, and how many homes have one.
-use super::places::entry_from;
-use model::Tag;
+use super::places::word_from;
 ghost use mathlib.Core.Path.{_≡_};
 ghost use mathlib.Core.Bool.{true};
-ghost use Prim.Native.Nat.{_+_, _*_, _%_, _^_, _≤_, _<_};
+ghost use Prim.Native.Nat.{_+_, _*_, _/_, _%_, _^_, _≤_, _<_};
 ghost use lib.ListN.{length, replicate};
 ghost use Rattle.model.specs.Tag.{present};
 ghost use Rattle.model.specs.Layout.{entryAt};
@@ -53,6 +52,13 @@ fn take_entry(
     }
 }
 
+// The index of a tag's home among the 64 of its word of homes.
+fn place_in_word(word: u64) -> u64
+    ensures { λ r. ⌜ r ≡ word / 2 ^ 2 % 2 ^ 6 ⌝ }
+{
+    (word >> 2) & 0x3f
+}
+
 // Takes what the log says at an offset where there is an entry.
 fn take_at(
     log: &[u8],
@@ -74,16 +80,17 @@ fn take_at(
         ≡ take (now (last .entry)) (7 * start) offset (entryAt (now (log .entry)) groups homes start (7 * start + offset))
         (record { closers = now (closers .entry); table = now (table .entry); map = now (map .entry) }) ⌝ }
 {
-    let base = 7 * start;
-    match entry_from(log, groups, homes, start, slot, offset) {
-        Tag::Nothing => {}
-        Tag::Entry(home, first) => {
-            take_entry(last, closers, table, map, home, first - base, offset);
-        }
-        Tag::Closing(home, first, _, _) => {
-            take_entry(last, closers, table, map, home, first - base, offset);
-        }
-    }
+    let word = word_from(log, groups, start, slot, offset);
+    let back = base_codec::tag_back(word);
+    take_entry(
+        last,
+        closers,
+        table,
+        map,
+        place_in_word(word),
+        offset - back,
+        offset,
+    )
 }
 
 // Finds the newest committed entries of the homes of word `w` in an empty table, and returns the word that marks the homes that have one.

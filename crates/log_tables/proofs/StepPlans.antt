@@ -4,7 +4,7 @@ use mathlib.Core.Logic.{_⊎_, inl, inr}
 use mathlib.Core.Bool.{Bool, true, false, cond}
 use mathlib.Core.List.{List, []}
 use Prim.Native.Nat.{ℕ, _+_, _-_, _*_, _≤_, _<_}
-use native.Mathlib.Decide.{decLe}
+use native.Mathlib.Decide.{decLe, ℕ-discrete}
 use native.Mathlib.Omega.{arith}
 use lib.Dec.{leb, ltb}
 use lib.ListN.{length, getD, take}
@@ -18,8 +18,8 @@ use Rattle.model.specs.declared.Tag.{Tag}
 use Rattle.log_scan.specs.Walk.{Walkable, closedBelow}
 use Rattle.log_replay.specs.Words.{touches}
 use Rattle.log_replay.specs.Restore.{restored, newestAt}
-use Rattle.log_replay.specs.Steps.{span, Stepped}
-use Rattle.log_replay.proofs.StepLaws.{due-span, due-length, span-in, span-take, span-last, restored-homes}
+use Rattle.log_replay.specs.Steps.{span, Stepped, Left}
+use Rattle.log_replay.proofs.StepLaws.{due-span, due-length, length-span, span-in, span-take, span-last, restored-homes}
 use Rattle.log_tables.specs.Plans.{remaining, StepMade}
 
 -- ---- how many homes
@@ -103,10 +103,11 @@ module _ (log : List ℕ) (groups homes start end : ℕ) (w : Walkable log group
   pub made-more : (more : Bool) → more ≡ ltb limit r → more ≡ ltb limit (length due)
   made-more more e = e ∙ planned-more due limit r d exact′ few′ least
 
-  module _ (area batch : List ℕ) (home : ℕ) (a b : List ℕ) (s : Stepped log groups homes start end cursor home 0 d area batch home d a b) where
+  module _ (area batch : List ℕ) (home bound k : ℕ) (a b : List ℕ) (is : k ≡ d)
+      (s : Stepped log groups homes start end cursor home 0 bound area batch home k a b) where
     now-is : span (touches log groups homes start end) cursor (home - cursor) ≡ take limit due
     now-is =
-        let n : length (span (touches log groups homes start end) cursor (home - cursor)) ≡ d = omega (arith, s .counted) in
+        let n : length (span (touches log groups homes start end) cursor (home - cursor)) ≡ d = omega (arith, s .counted, is) in
         span-take log groups homes start end w cursor home (s .rises)
         ∙ ap (λ (x : ℕ). take x due) n ∙ planned-take due limit r d exact′ few′ least
 
@@ -120,9 +121,57 @@ module _ (log : List ℕ) (groups homes start end : ℕ) (w : Walkable log group
     pub made-written : b ≡ puts batch 0 (batchBytes (homeWrites a (take limit due)))
     made-written = s .written ∙ ap (λ (hs : List ℕ). puts batch 0 (batchBytes (homeWrites a hs))) now-is
 
-    pub made-moved : limit < r → 1 ≤ limit → home ≡ getD due (limit - 1) 0 + 1
-    made-moved l o =
+    pub made-moved : (limit < r → d ≡ bound) → limit < r → 1 ≤ limit → home ≡ getD due (limit - 1) 0 + 1
+    made-moved full l o =
         let e : d ≡ limit = planned-full due limit r d exact′ few′ least l in
-        let q = s .lastDone (omega arith) refl in
-        let n : length (span (touches log groups homes start end) cursor (home - cursor)) - 1 ≡ limit - 1 = omega (arith, s .counted) in
+        let q = s .lastDone (omega (arith, e, is, o)) (is ∙ full l) in
+        let n : length (span (touches log groups homes start end) cursor (home - cursor)) - 1 ≡ limit - 1 = omega (arith, s .counted, is, e) in
         sym (ap (λ (x : ℕ). getD due x 0 + 1) (sym n) ∙ span-last log groups homes start end w cursor home (q .0) (q .1))
+
+-- ---- homes brought back before they are counted
+
+-- with room for as many as the limit and the homes allow: those done and those seen after them
+module _ (f : ℕ → Bool) (homes cursor limit most done rest : ℕ) (t : Left f homes cursor most done rest)
+    (m : (most ≤ limit) × (most ≤ homes) × ((most ≡ limit) ⊎ (most ≡ homes))) (k : done ≤ most) where
+  some-left : 0 < rest → most ≡ limit
+  some-left z = go (m .2)
+    where
+      go : (most ≡ limit) ⊎ (most ≡ homes) → most ≡ limit
+      go (inl e) = e
+      go (inr e) = absurd (omega (arith, e, z, t .some z, t .most, length-span f cursor (homes - cursor)))
+
+  pub seen-exact : done + rest ≤ limit → done + rest ≡ length (span f cursor (homes - cursor))
+  seen-exact l = go (ℕ-discrete rest 0)
+    where
+      go : Dec (rest ≡ 0) → done + rest ≡ length (span f cursor (homes - cursor))
+      go (yes z) = omega (arith, z, t .all z)
+      go (no z) = absurd (omega (arith, z, l, t .some (omega (arith, z)), some-left (omega (arith, z))))
+
+  pub seen-least : (done ≤ done + rest) × (done ≤ limit) × ((done ≡ done + rest) ⊎ (done ≡ limit))
+  seen-least = (omega arith, omega (arith, k, m .0), go (ℕ-discrete rest 0))
+    where
+      go : Dec (rest ≡ 0) → (done ≡ done + rest) ⊎ (done ≡ limit)
+      go (yes z) = inl (omega (arith, z))
+      go (no z) = inr (t .some (omega (arith, z)) ∙ some-left (omega (arith, z)))
+
+  pub seen-full : limit < done + rest → done ≡ most
+  seen-full l = t .some (omega (arith, l, k, m .0))
+
+  pub seen-few : done + rest ≤ homes
+  seen-few = omega (arith, t .most, length-span f cursor (homes - cursor))
+
+-- as many as there are
+pub all-done : (f : ℕ → Bool) (homes cursor d k rest : ℕ) → Left f homes cursor d k rest → k ≤ d → d ≤ length (span f cursor (homes - cursor)) → k ≡ d
+all-done f homes cursor d k rest t l m = go (ℕ-discrete rest 0)
+  where
+    go : Dec (rest ≡ 0) → k ≡ d
+    go (yes z) = omega (arith, l, m, t .all z)
+    go (no z) = t .some (omega (arith, z))
+
+-- a fence's bytes
+pub fence-few : (found limit size : ℕ) → size ≡ cond (leb found limit) 2 0 → size ≤ 2
+fence-few found limit size e = go (leb found limit) e
+  where
+    go : (b : Bool) → size ≡ cond b 2 0 → size ≤ 2
+    go true e = omega arith
+    go false e = omega arith

@@ -24,7 +24,7 @@ fn fence_size(found: u64, limit: u64) -> u64
 }
 
 // Finds the bytes that a step of at most `limit` homes from the cursor on takes. If the batch has them, those homes are brought back into the data
-// copy, and their records stand at the batch's beginning.
+// copy, and their records stand at the batch's beginning. The homes are counted first only where the batch may have no room for the most that can come.
 pub fn bring_some(
     log: &[u8],
     area: &mut [u8],
@@ -45,6 +45,30 @@ pub fn bring_some(
         (now (batch .entry))
         (now (area .exit)) (now (batch .exit)) ⌝ }
 {
+    let room = batch.len() as u64;
+    let most = least(limit, homes);
+    if 68 * most + 2 <= room {
+        let got = log_replay::bring_from(
+            log,
+            area,
+            batch,
+            last,
+            heads,
+            links,
+            groups,
+            homes,
+            start,
+            end,
+            cursor,
+            most,
+        );
+        let seen = got.done + got.rest;
+        return Made {
+            size: 68 * got.done + fence_size(seen, limit),
+            next: got.home,
+            more: limit < seen,
+        };
+    }
     let found = log_replay::count_from(
         log,
         last,
@@ -60,14 +84,14 @@ pub fn bring_some(
     let done = least(found, limit);
     let size = 68 * done + fence_size(found, limit);
     let more = limit < found;
-    if (batch.len() as u64) < size {
+    if room < size {
         return Made {
             size,
             next: cursor,
             more,
         };
     }
-    let next = log_replay::bring_from(
+    let got = log_replay::bring_from(
         log,
         area,
         batch,
@@ -81,5 +105,9 @@ pub fn bring_some(
         cursor,
         done,
     );
-    Made { size, next, more }
+    Made {
+        size,
+        next: got.home,
+        more,
+    }
 }

@@ -26,6 +26,7 @@ Inv-loop log cells₀ heads₀ links₀ groups homes start n progress₀ at₀ n
     × (length cells ≡ length cells₀)
     × (length heads ≡ length heads₀)
     × (length links ≡ length links₀)
+    × (progress .failed ≡ 0)
 
 abbrev μ-loop : tie.MeasureT-loop
 μ-loop log cells₀ heads₀ links₀ groups homes start n progress₀ at₀ number₀ left₀ cells heads links progress at number left =
@@ -41,6 +42,7 @@ loop-holds c =
       omega arith,
       c .first-slot .ensures,
       λ h. omega arith,
+      refl,
       refl,
       refl,
       refl,
@@ -88,6 +90,7 @@ visit-group-requires c κs =
       omega (arith, next l),
       i .2 .turn,
       omega (arith, c .before .before .before .in-group .ensures),
+      i .7,
       small l .end,
       small l .number,
       omega (arith, i .4, e .long),
@@ -146,6 +149,7 @@ loop-again c =
       omega (arith, c .before .before .before .before .before .before .before .before .before .visit-group .kept, l .inv .4),
       omega (arith, c .before .before .before .before .before .before .before .before .before .visit-group .kept, l .inv .5),
       omega (arith, c .before .before .before .before .before .before .before .before .before .visit-group .kept, l .inv .6),
+      c .before .if1 .left,
     )
 
 same-length-4 : tie.Need-same-length-4 Inv-loop μ-loop
