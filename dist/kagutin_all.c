@@ -45,13 +45,6 @@ struct core_slice_u8 {
     size_t len;
 };
 
-struct model__Writer {
-    uint64_t mode;
-    uint64_t home;
-    uint64_t first;
-    uint64_t count;
-};
-
 struct model__State {
     uint64_t groups;
     uint64_t homes;
@@ -64,6 +57,13 @@ struct model__State {
     uint64_t last;
     uint64_t round;
     uint64_t cursor;
+};
+
+struct model__Writer {
+    uint64_t mode;
+    uint64_t home;
+    uint64_t first;
+    uint64_t count;
 };
 
 struct core_slice_mut_u8 {
@@ -438,19 +438,6 @@ static inline bool call_ask__lengths_right(struct core_slice_u8 log, struct core
     return (uint64_t)state.len == 1024u;
 }
 
-/* How far `x` lies above `low`, modulo 2^64: one test of it tells whether `x` lies between `low` and a number above it. */
-static inline uint64_t base_order__distances__distance(uint64_t x, uint64_t low)
-{
-    uint64_t t4;
-
-    if (low <= x) {
-        t4 = x - low;
-    } else {
-        t4 = (x + (UINT64_C(0xffffffffffffffff) - low)) + 1u;
-    }
-    return t4;
-}
-
 /* Whether the numbers of groups and homes are `groups` and `homes`, and the group numbers and the places filled are in order. */
 static inline bool base_order__numbers__groups_in_order(struct core_slice_u8 s, uint64_t groups, uint64_t homes)
 {
@@ -470,7 +457,7 @@ static inline bool base_order__numbers__groups_in_order(struct core_slice_u8 s, 
     if (6u < t5) {
         return false;
     }
-    t6 = base_order__distances__distance(core_load_8(s.ptr + 24u), t4);
+    t6 = core_load_8(s.ptr + 24u) - t4;
     if (t6 < groups) {
         return true;
     }
@@ -484,58 +471,34 @@ static inline bool base_order__numbers__groups_in_order(struct core_slice_u8 s, 
    group, and `all` with those filled. What lies between two others is compared once, by its distance from the lower one. */
 static inline bool base_order__numbers__bounds_in_order(struct core_slice_u8 s, uint64_t low, uint64_t whole, uint64_t all)
 {
-    uint64_t t5, t6, t7;
+    uint64_t t5, t6;
 
     t5 = core_load_8(s.ptr + 48u);
     if (t5 < core_load_8(s.ptr + 56u)) {
         return false;
     }
-    t6 = base_order__distances__distance(t5, low);
+    t6 = t5 - low;
     if (whole < t6) {
         return false;
     }
-    t7 = base_order__distances__distance(core_load_8(s.ptr + 40u), low);
-    if (t6 < t7) {
+    if (t6 < (core_load_8(s.ptr + 40u) - low)) {
         return false;
     }
     return core_load_8(s.ptr + 64u) <= (low + all);
-}
-
-/* The count that is kept as `less`. */
-static inline uint64_t base_state__writers__one_more(uint64_t less)
-{
-    if (less == UINT64_C(0xffffffffffffffff)) {
-        return 0u;
-    }
-    return less + 1u;
-}
-
-/* Reads the four numbers of writer `w`. */
-static inline struct model__Writer base_state__writers__writer(struct core_slice_u8 s, uint64_t w)
-{
-    uint64_t t3, t4, t5, t6, t7;
-
-    t3 = 128u + (24u * w);
-    t4 = (uint64_t)s.ptr[(size_t)(104u + w)];
-    t5 = core_load_8(s.ptr + (size_t)t3);
-    t6 = core_load_8(s.ptr + (size_t)(t3 + 8u));
-    t7 = base_state__writers__one_more(core_load_8(s.ptr + (size_t)(t3 + 16u)));
-    return (struct model__Writer){.mode = t4, .home = t5, .first = t6, .count = t7};
 }
 
 /* Whether the record of a writer that holds a block for a home below D and has logged entries is in order: the positions since
    its first one are among those of the log, and hold its entries. */
 static inline bool base_order__quick__logged_in_order(struct model__State st, uint64_t low, uint64_t all, struct model__Writer r)
 {
-    uint64_t t5, t6;
+    uint64_t t5;
     (void)st;
 
-    t5 = base_order__distances__distance(low + all, r.first);
+    t5 = (low + all) - r.first;
     if (all < t5) {
         return false;
     }
-    t6 = base_order__distances__distance(r.count, 1u);
-    return t6 < t5;
+    return (r.count - 1u) < t5;
 }
 
 /* Whether the record of a writer that is neither idle nor without a block is in order in a strip whose group numbers and places
@@ -555,14 +518,16 @@ static inline bool base_order__quick__record_in_order(struct model__State st, ui
    writers are visited of whose mode a bit but the lowest is set. */
 static inline bool base_order__quick__records_in_order(struct core_slice_u8 s, struct model__State st, uint64_t low, uint64_t all)
 {
-    uint64_t t5;
+    uint64_t t5, t117, t118;
     bool t8;
-    struct model__Writer t10;
 
     t5 = core_load_8(s.ptr + 104u) & UINT64_C(0xfefefefefefefefe);
     while (t5 != 0u) {
-        t10 = base_state__writers__writer(s, (uint64_t)trailing_zeros(t5) / 8u);
-        t8 = base_order__quick__record_in_order(st, low, all, t10);
+        t117 = (uint64_t)trailing_zeros(t5) / 8u;
+        t118 = 128u + (24u * t117);
+        t8 = base_order__quick__record_in_order(st, low, all, (struct model__Writer){.mode = (uint64_t)s.ptr[(size_t)(104u
+                + t117)], .home = core_load_8(s.ptr + (size_t)t118), .first = core_load_8(s.ptr + (size_t)(t118 + 8u)),
+                .count = core_load_8(s.ptr + (size_t)(t118 + 16u)) + 1u});
         if (!t8) {
             return false;
         }
@@ -691,8 +656,11 @@ static inline bool base_order__whole__writer_at_in_order(struct core_slice_u8 s,
 {
     struct model__Writer t4;
     bool t5;
+    uint64_t t10;
 
-    t4 = base_state__writers__writer(s, w);
+    t10 = 128u + (24u * w);
+    t4 = (struct model__Writer){.mode = (uint64_t)s.ptr[(size_t)(104u + w)], .home = core_load_8(s.ptr + (size_t)t10),
+            .first = core_load_8(s.ptr + (size_t)(t10 + 8u)), .count = core_load_8(s.ptr + (size_t)(t10 + 16u)) + 1u};
     t5 = base_order__whole__writer_in_order(st, t4);
     if (!t5) {
         return false;
@@ -804,14 +772,16 @@ static inline uint64_t call_writer__writer_answer(struct core_slice_u8 log, stru
 static inline uint64_t call_writer__abort_answer(struct core_slice_u8 log, struct core_slice_u8 area, struct core_slice_u8 state,
         uint64_t writer)
 {
-    uint64_t t5;
+    uint64_t t5, t11;
     struct model__Writer t7;
 
     t5 = call_writer__writer_answer(log, area, state, writer);
     if (t5 != 0u) {
         return t5;
     }
-    t7 = base_state__writers__writer(state, writer);
+    t11 = 128u + (24u * writer);
+    t7 = (struct model__Writer){.mode = (uint64_t)state.ptr[(size_t)(104u + writer)], .home = core_load_8(state.ptr + (size_t)t11),
+            .first = core_load_8(state.ptr + (size_t)(t11 + 8u)), .count = core_load_8(state.ptr + (size_t)(t11 + 16u)) + 1u};
     if (!(1u <= t7.mode)) {
         return 7u;
     }
@@ -828,35 +798,27 @@ static inline struct model__Writer base_writers__places__aborted(struct model__W
     return t2;
 }
 
-/* A count as it is kept: less one, modulo 2^64. */
-static inline uint64_t base_state__writers__less_one(uint64_t count)
-{
-    if (count == 0u) {
-        return UINT64_C(0xffffffffffffffff);
-    }
-    return count - 1u;
-}
-
 /* Stores `r` as the four numbers of writer `w`, and leaves the rest of the strip as it was. */
 static inline void base_state__writers__set_writer(struct core_slice_mut_u8 s, uint64_t w, struct model__Writer r)
 {
-    uint64_t t4, t15;
+    uint64_t t4;
 
     t4 = 128u + (24u * w);
     s.ptr[(size_t)(104u + w)] = (uint8_t)(r.mode % 256u);
     core_store_8(s.ptr + (size_t)t4, r.home);
     core_store_8(s.ptr + (size_t)(t4 + 8u), r.first);
-    t15 = base_state__writers__less_one(r.count);
-    core_store_8(s.ptr + (size_t)(t4 + 16u), t15);
+    core_store_8(s.ptr + (size_t)(t4 + 16u), r.count - 1u);
 }
 
 /* Ends the transaction in the record of writer `w`. */
 static inline void base_writers__abort(struct core_slice_mut_u8 s, uint64_t w)
 {
-    struct model__Writer t3, t9;
+    struct model__Writer t9;
+    uint64_t t11;
 
-    t3 = base_state__writers__writer((struct core_slice_u8){s.ptr, s.len}, w);
-    t9 = base_writers__places__aborted(t3);
+    t11 = 128u + (24u * w);
+    t9 = base_writers__places__aborted((struct model__Writer){.mode = (uint64_t)s.ptr[(size_t)(104u + w)], .home = core_load_8(s.ptr
+            + (size_t)t11), .first = core_load_8(s.ptr + (size_t)(t11 + 8u)), .count = core_load_8(s.ptr + (size_t)(t11 + 16u)) + 1u});
     base_state__writers__set_writer(s, w, t9);
 }
 
@@ -886,14 +848,16 @@ static inline struct core_call_ask__Reply kagutin__kagutin_abort(struct core_sli
 static inline uint64_t call_writer__begin_answer(struct core_slice_u8 log, struct core_slice_u8 area, struct core_slice_u8 state,
         uint64_t writer)
 {
-    uint64_t t5;
+    uint64_t t5, t11;
     struct model__Writer t8;
 
     t5 = call_writer__writer_answer(log, area, state, writer);
     if (t5 != 0u) {
         return t5;
     }
-    t8 = base_state__writers__writer(state, writer);
+    t11 = 128u + (24u * writer);
+    t8 = (struct model__Writer){.mode = (uint64_t)state.ptr[(size_t)(104u + writer)], .home = core_load_8(state.ptr + (size_t)t11),
+            .first = core_load_8(state.ptr + (size_t)(t11 + 8u)), .count = core_load_8(state.ptr + (size_t)(t11 + 16u)) + 1u};
     if (1u <= t8.mode) {
         return 6u;
     }
@@ -913,10 +877,12 @@ static inline struct model__Writer base_writers__places__begun(struct model__Wri
 /* Begins a transaction in the record of writer `w`. */
 static inline void base_writers__begin(struct core_slice_mut_u8 s, uint64_t w)
 {
-    struct model__Writer t3, t9;
+    struct model__Writer t9;
+    uint64_t t11;
 
-    t3 = base_state__writers__writer((struct core_slice_u8){s.ptr, s.len}, w);
-    t9 = base_writers__places__begun(t3);
+    t11 = 128u + (24u * w);
+    t9 = base_writers__places__begun((struct model__Writer){.mode = (uint64_t)s.ptr[(size_t)(104u + w)], .home = core_load_8(s.ptr
+            + (size_t)t11), .first = core_load_8(s.ptr + (size_t)(t11 + 8u)), .count = core_load_8(s.ptr + (size_t)(t11 + 16u)) + 1u});
     base_state__writers__set_writer(s, w, t9);
 }
 
@@ -1031,7 +997,7 @@ static inline uint64_t call_store__entry__log_answer(struct core_slice_u8 state,
 static inline uint64_t call_commit__commit_answer(struct core_slice_u8 log, struct core_slice_u8 area, struct core_slice_u8 state,
         struct core_slice_u8 newest, struct core_slice_u8 batch, uint64_t writer)
 {
-    uint64_t t7;
+    uint64_t t7, t14;
     struct model__Writer t8;
 
     t7 = call_ask__newest_answer(log, area, state, newest);
@@ -1041,7 +1007,9 @@ static inline uint64_t call_commit__commit_answer(struct core_slice_u8 log, stru
     if (8u <= writer) {
         return 4u;
     }
-    t8 = base_state__writers__writer(state, writer);
+    t14 = 128u + (24u * writer);
+    t8 = (struct model__Writer){.mode = (uint64_t)state.ptr[(size_t)(104u + writer)], .home = core_load_8(state.ptr + (size_t)t14),
+            .first = core_load_8(state.ptr + (size_t)(t14 + 8u)), .count = core_load_8(state.ptr + (size_t)(t14 + 16u)) + 1u};
     if (!(1u <= t8.mode)) {
         return 7u;
     }
@@ -1929,18 +1897,17 @@ static inline uint64_t call_commit__commit_held(struct core_slice_mut_u8 log, st
 static inline uint64_t call_commit__commit_next(struct core_slice_mut_u8 log, struct core_slice_u8 area, struct core_slice_mut_u8 state,
         struct core_slice_mut_u8 newest, struct core_slice_mut_u8 batch, uint64_t w)
 {
-    struct model__State t7;
-    struct model__Writer t8;
-    uint64_t t22, t23;
+    uint64_t t22, t23, t1156;
 
     t22 = core_load_8(state.ptr);
     t23 = core_load_8(state.ptr + 8u);
-    t7 = (struct model__State){.groups = t22, .homes = t23, .start = core_load_8(state.ptr + 16u), .next = core_load_8(state.ptr + 24u),
-            .filled = core_load_8(state.ptr + 32u), .settled = core_load_8(state.ptr + 40u), .fenced = core_load_8(state.ptr + 48u),
-            .durable = core_load_8(state.ptr + 56u), .last = core_load_8(state.ptr + 64u), .round = core_load_8(state.ptr + 88u),
-            .cursor = core_load_8(state.ptr + 96u)};
-    t8 = base_state__writers__writer((struct core_slice_u8){state.ptr, state.len}, w);
-    return call_commit__commit_held(log, area, state, newest, batch, t7, t8, w);
+    t1156 = 128u + (24u * w);
+    return call_commit__commit_held(log, area, state, newest, batch, (struct model__State){.groups = t22, .homes = t23,
+            .start = core_load_8(state.ptr + 16u), .next = core_load_8(state.ptr + 24u), .filled = core_load_8(state.ptr + 32u),
+            .settled = core_load_8(state.ptr + 40u), .fenced = core_load_8(state.ptr + 48u), .durable = core_load_8(state.ptr + 56u),
+            .last = core_load_8(state.ptr + 64u), .round = core_load_8(state.ptr + 88u), .cursor = core_load_8(state.ptr + 96u)},
+            (struct model__Writer){.mode = (uint64_t)state.ptr[(size_t)(104u + w)], .home = core_load_8(state.ptr + (size_t)t1156),
+            .first = core_load_8(state.ptr + (size_t)(t1156 + 8u)), .count = core_load_8(state.ptr + (size_t)(t1156 + 16u)) + 1u}, w);
 }
 
 /* Commits a writer's open transaction: its held block is logged as the closing entry, whose position + 1 is the ticket, and for
@@ -1948,7 +1915,7 @@ static inline uint64_t call_commit__commit_next(struct core_slice_mut_u8 log, st
 static inline struct core_call_ask__Reply call_commit__commit(struct core_slice_mut_u8 log, struct core_slice_u8 area, struct core_slice_mut_u8 state,
         struct core_slice_mut_u8 newest, struct core_slice_mut_u8 batch, uint64_t writer)
 {
-    uint64_t t7, t8, t12, t43, t44;
+    uint64_t t7, t8, t12, t41, t367, t368;
     struct model__Writer t9;
     struct model__State t10;
 
@@ -1958,14 +1925,16 @@ static inline struct core_call_ask__Reply call_commit__commit(struct core_slice_
         return (struct core_call_ask__Reply){.code = t7, .figure = 0u, .size = 0u};
     }
     t8 = writer;
-    t9 = base_state__writers__writer((struct core_slice_u8){state.ptr, state.len}, t8);
+    t41 = 128u + (24u * t8);
+    t9 = (struct model__Writer){.mode = (uint64_t)state.ptr[(size_t)(104u + t8)], .home = core_load_8(state.ptr + (size_t)t41),
+            .first = core_load_8(state.ptr + (size_t)(t41 + 8u)), .count = core_load_8(state.ptr + (size_t)(t41 + 16u)) + 1u};
     if (!(2u <= t9.mode)) {
         call_commit__commit_none(state, t8);
         return (struct core_call_ask__Reply){.code = 0u, .figure = 0u, .size = 0u};
     }
-    t43 = core_load_8(state.ptr);
-    t44 = core_load_8(state.ptr + 8u);
-    t10 = (struct model__State){.groups = t43, .homes = t44, .start = core_load_8(state.ptr + 16u), .next = core_load_8(state.ptr + 24u),
+    t367 = core_load_8(state.ptr);
+    t368 = core_load_8(state.ptr + 8u);
+    t10 = (struct model__State){.groups = t367, .homes = t368, .start = core_load_8(state.ptr + 16u), .next = core_load_8(state.ptr + 24u),
             .filled = core_load_8(state.ptr + 32u), .settled = core_load_8(state.ptr + 40u), .fenced = core_load_8(state.ptr + 48u),
             .durable = core_load_8(state.ptr + 56u), .last = core_load_8(state.ptr + 64u), .round = core_load_8(state.ptr + 88u),
             .cursor = core_load_8(state.ptr + 96u)};
@@ -2063,43 +2032,24 @@ static inline bool call_rights__ranges__of_list(uint64_t home)
     return home < 12u;
 }
 
-/* A home less the first of a range, modulo 2^64. */
-static inline uint64_t call_rights__ranges__wrapped_difference(uint64_t home, uint64_t first)
-{
-    if (first <= home) {
-        return home - first;
-    }
-    return (home + (UINT64_C(0xffffffffffffffff) - first)) + 1u;
-}
-
-/* Whether a home lies in the range at index `at`: a home before it wraps to a difference that no range has. */
-static inline bool call_rights__ranges__in_range(struct core_slice_u8 s, uint64_t at, uint64_t home)
-{
-    uint64_t t5, t7;
-
-    t5 = core_load_2(s.ptr + (size_t)(at + 2u));
-    t7 = call_rights__ranges__wrapped_difference(home, core_load_2(s.ptr + (size_t)at));
-    return t7 < t5;
-}
-
 /* Whether a home lies in one of the four ranges from index `at` on. */
 static inline bool call_rights__ranges__in_ranges(struct core_slice_u8 s, uint64_t at, uint64_t home)
 {
-    bool t4, t5, t7;
+    uint64_t t223, t438, t653;
 
-    t4 = call_rights__ranges__in_range(s, at, home);
-    if (t4) {
+    if ((home - core_load_2(s.ptr + (size_t)at)) < core_load_2(s.ptr + (size_t)(at + 2u))) {
         return true;
     }
-    t5 = call_rights__ranges__in_range(s, at + 4u, home);
-    if (t5) {
+    t223 = at + 4u;
+    if ((home - core_load_2(s.ptr + (size_t)t223)) < core_load_2(s.ptr + (size_t)(t223 + 2u))) {
         return true;
     }
-    t7 = call_rights__ranges__in_range(s, at + 8u, home);
-    if (t7) {
+    t438 = at + 8u;
+    if ((home - core_load_2(s.ptr + (size_t)t438)) < core_load_2(s.ptr + (size_t)(t438 + 2u))) {
         return true;
     }
-    return call_rights__ranges__in_range(s, at + 12u, home);
+    t653 = at + 12u;
+    return (home - core_load_2(s.ptr + (size_t)t653)) < core_load_2(s.ptr + (size_t)(t653 + 2u));
 }
 
 /* Whether a home lies in the last range of the block that the entry with its block at index `place` of the log gives: it ends
@@ -2125,22 +2075,23 @@ static inline bool call_rights__ranges__in_last(struct core_slice_u8 log, uint64
    they are. */
 static inline bool call_rights__ranges__in_entry(struct core_slice_u8 log, uint64_t place, uint64_t o, uint64_t home)
 {
-    bool t5, t7, t9;
+    uint64_t t14, t229, t444, t659;
 
-    t5 = call_rights__ranges__in_range(log, place + o, home);
-    if (t5) {
+    t14 = place + o;
+    if ((home - core_load_2(log.ptr + (size_t)t14)) < core_load_2(log.ptr + (size_t)(t14 + 2u))) {
         return true;
     }
-    t7 = call_rights__ranges__in_range(log, place + (o + 4u), home);
-    if (t7) {
+    t229 = place + (o + 4u);
+    if ((home - core_load_2(log.ptr + (size_t)t229)) < core_load_2(log.ptr + (size_t)(t229 + 2u))) {
         return true;
     }
-    t9 = call_rights__ranges__in_range(log, place + (o + 8u), home);
-    if (t9) {
+    t444 = place + (o + 8u);
+    if ((home - core_load_2(log.ptr + (size_t)t444)) < core_load_2(log.ptr + (size_t)(t444 + 2u))) {
         return true;
     }
     if (o < 48u) {
-        return call_rights__ranges__in_range(log, place + (o + 12u), home);
+        t659 = place + (o + 12u);
+        return (home - core_load_2(log.ptr + (size_t)t659)) < core_load_2(log.ptr + (size_t)(t659 + 2u));
     }
     return call_rights__ranges__in_last(log, place, home);
 }
@@ -2563,7 +2514,7 @@ static inline void call_read__blocks__show(struct core_slice_u8 log, struct core
         struct core_slice_u8 newest, struct core_slice_mut_u8 block, uint64_t writer, uint64_t home)
 {
     struct model__State t8;
-    uint64_t t9, t11, t26, t27;
+    uint64_t t9, t11, t26, t27, t1160;
     struct model__Writer t10;
     bool t12;
 
@@ -2574,7 +2525,9 @@ static inline void call_read__blocks__show(struct core_slice_u8 log, struct core
             .durable = core_load_8(state.ptr + 56u), .last = core_load_8(state.ptr + 64u), .round = core_load_8(state.ptr + 88u),
             .cursor = core_load_8(state.ptr + 96u)};
     t9 = writer;
-    t10 = base_state__writers__writer(state, t9);
+    t1160 = 128u + (24u * t9);
+    t10 = (struct model__Writer){.mode = (uint64_t)state.ptr[(size_t)(104u + t9)], .home = core_load_8(state.ptr + (size_t)t1160),
+            .first = core_load_8(state.ptr + (size_t)(t1160 + 8u)), .count = core_load_8(state.ptr + (size_t)(t1160 + 16u)) + 1u};
     t12 = call_read__blocks__holds_home(t10, home);
     if (t12) {
         call_read__blocks__show_held(block, state, t9);
@@ -4592,7 +4545,7 @@ static inline bool call_rights__may_store(struct core_slice_u8 log, struct core_
 static inline uint64_t call_store__stores__store_answer(struct core_slice_u8 log, struct core_slice_u8 area, struct core_slice_u8 state,
         struct core_slice_u8 block, struct core_slice_u8 batch, uint64_t writer, uint64_t home)
 {
-    uint64_t t8;
+    uint64_t t8, t18;
     struct model__Writer t9;
     bool t10;
 
@@ -4610,7 +4563,9 @@ static inline uint64_t call_store__stores__store_answer(struct core_slice_u8 log
     if (!t10) {
         return 19u;
     }
-    t9 = base_state__writers__writer(state, writer);
+    t18 = 128u + (24u * writer);
+    t9 = (struct model__Writer){.mode = (uint64_t)state.ptr[(size_t)(104u + writer)], .home = core_load_8(state.ptr + (size_t)t18),
+            .first = core_load_8(state.ptr + (size_t)(t18 + 8u)), .count = core_load_8(state.ptr + (size_t)(t18 + 16u)) + 1u};
     if (!(1u <= t9.mode)) {
         return 7u;
     }
@@ -4735,25 +4690,24 @@ static inline uint64_t call_store__stores__store_other(struct core_slice_mut_u8 
 static inline uint64_t call_store__stores__store_next(struct core_slice_mut_u8 log, struct core_slice_mut_u8 state, struct core_slice_u8 block,
         struct core_slice_mut_u8 batch, uint64_t w, uint64_t home)
 {
-    struct model__State t7;
-    struct model__Writer t8;
-    uint64_t t20, t21;
+    uint64_t t20, t21, t1154;
 
     t20 = core_load_8(state.ptr);
     t21 = core_load_8(state.ptr + 8u);
-    t7 = (struct model__State){.groups = t20, .homes = t21, .start = core_load_8(state.ptr + 16u), .next = core_load_8(state.ptr + 24u),
-            .filled = core_load_8(state.ptr + 32u), .settled = core_load_8(state.ptr + 40u), .fenced = core_load_8(state.ptr + 48u),
-            .durable = core_load_8(state.ptr + 56u), .last = core_load_8(state.ptr + 64u), .round = core_load_8(state.ptr + 88u),
-            .cursor = core_load_8(state.ptr + 96u)};
-    t8 = base_state__writers__writer((struct core_slice_u8){state.ptr, state.len}, w);
-    return call_store__stores__store_other(log, state, block, batch, t7, t8, w, home);
+    t1154 = 128u + (24u * w);
+    return call_store__stores__store_other(log, state, block, batch, (struct model__State){.groups = t20, .homes = t21,
+            .start = core_load_8(state.ptr + 16u), .next = core_load_8(state.ptr + 24u), .filled = core_load_8(state.ptr + 32u),
+            .settled = core_load_8(state.ptr + 40u), .fenced = core_load_8(state.ptr + 48u), .durable = core_load_8(state.ptr + 56u),
+            .last = core_load_8(state.ptr + 64u), .round = core_load_8(state.ptr + 88u), .cursor = core_load_8(state.ptr + 96u)},
+            (struct model__Writer){.mode = (uint64_t)state.ptr[(size_t)(104u + w)], .home = core_load_8(state.ptr + (size_t)t1154),
+            .first = core_load_8(state.ptr + (size_t)(t1154 + 8u)), .count = core_load_8(state.ptr + (size_t)(t1154 + 16u)) + 1u}, w, home);
 }
 
 /* Holds a block for a home in a writer's open transaction; a block held for another home is logged first. */
 static inline struct core_call_ask__Reply call_store__stores__store(struct core_slice_mut_u8 log, struct core_slice_u8 area,
         struct core_slice_mut_u8 state, struct core_slice_u8 block, struct core_slice_mut_u8 batch, uint64_t writer, uint64_t home)
 {
-    uint64_t t8, t9, t11;
+    uint64_t t8, t9, t11, t36;
     struct model__Writer t10;
 
     t8 = call_store__stores__store_answer((struct core_slice_u8){log.ptr, log.len}, area, (struct core_slice_u8){state.ptr, state.len},
@@ -4762,7 +4716,9 @@ static inline struct core_call_ask__Reply call_store__stores__store(struct core_
         return (struct core_call_ask__Reply){.code = t8, .figure = 0u, .size = 0u};
     }
     t9 = writer;
-    t10 = base_state__writers__writer((struct core_slice_u8){state.ptr, state.len}, t9);
+    t36 = 128u + (24u * t9);
+    t10 = (struct model__Writer){.mode = (uint64_t)state.ptr[(size_t)(104u + t9)], .home = core_load_8(state.ptr + (size_t)t36),
+            .first = core_load_8(state.ptr + (size_t)(t36 + 8u)), .count = core_load_8(state.ptr + (size_t)(t36 + 16u)) + 1u};
     if (!(2u <= t10.mode)) {
         call_store__stores__store_first(state, block, t10, t9, home);
         return (struct core_call_ask__Reply){.code = 0u, .figure = 0u, .size = 0u};
@@ -4807,7 +4763,7 @@ static inline uint64_t call_many__questions__log_all_answer(struct core_slice_u8
 static inline uint64_t call_many__questions__transact_answer(struct core_slice_u8 log, struct core_slice_u8 area, struct core_slice_u8 state,
         struct core_slice_u8 newest, struct core_slice_u8 blocks, struct core_slice_u8 batch, uint64_t writer, uint64_t home)
 {
-    uint64_t t9, t10, t20, t21;
+    uint64_t t9, t10, t19, t344, t345;
     bool t11;
     struct model__Writer t16;
 
@@ -4820,13 +4776,15 @@ static inline uint64_t call_many__questions__transact_answer(struct core_slice_u
     if (!t11) {
         return 19u;
     }
-    t16 = base_state__writers__writer(state, writer);
+    t19 = 128u + (24u * writer);
+    t16 = (struct model__Writer){.mode = (uint64_t)state.ptr[(size_t)(104u + writer)], .home = core_load_8(state.ptr + (size_t)t19),
+            .first = core_load_8(state.ptr + (size_t)(t19 + 8u)), .count = core_load_8(state.ptr + (size_t)(t19 + 16u)) + 1u};
     if (1u <= t16.mode) {
         return 6u;
     }
-    t20 = core_load_8(state.ptr);
-    t21 = core_load_8(state.ptr + 8u);
-    return call_many__questions__log_all_answer(state, (struct model__State){.groups = t20, .homes = t21,
+    t344 = core_load_8(state.ptr);
+    t345 = core_load_8(state.ptr + 8u);
+    return call_many__questions__log_all_answer(state, (struct model__State){.groups = t344, .homes = t345,
             .start = core_load_8(state.ptr + 16u), .next = core_load_8(state.ptr + 24u), .filled = core_load_8(state.ptr + 32u),
             .settled = core_load_8(state.ptr + 40u), .fenced = core_load_8(state.ptr + 48u), .durable = core_load_8(state.ptr + 56u),
             .last = core_load_8(state.ptr + 64u), .round = core_load_8(state.ptr + 88u), .cursor = core_load_8(state.ptr + 96u)}, t10,
@@ -4836,11 +4794,13 @@ static inline uint64_t call_many__questions__transact_answer(struct core_slice_u
 /* Begins a transaction of the writer `w`, which holds the first of the lent blocks. */
 static inline void call_many__steps__hold_first(struct core_slice_mut_u8 state, struct core_slice_u8 blocks, uint64_t w, uint64_t home)
 {
-    struct model__Writer t5;
+    uint64_t t18;
 
     base_writers__begin(state, w);
-    t5 = base_state__writers__writer((struct core_slice_u8){state.ptr, state.len}, w);
-    call_store__stores__store_first(state, (struct core_slice_u8){blocks.ptr, (size_t)((uint64_t)64u - 0u)}, t5, w, home);
+    t18 = 128u + (24u * w);
+    call_store__stores__store_first(state, (struct core_slice_u8){blocks.ptr, (size_t)((uint64_t)64u - 0u)},
+            (struct model__Writer){.mode = (uint64_t)state.ptr[(size_t)(104u + w)], .home = core_load_8(state.ptr + (size_t)t18),
+            .first = core_load_8(state.ptr + (size_t)(t18 + 8u)), .count = core_load_8(state.ptr + (size_t)(t18 + 16u)) + 1u}, w, home);
 }
 
 /* Stores the lent blocks but the first, which is held, by rising home. Returns how many bytes of the batch are written. */
@@ -5368,10 +5328,12 @@ static inline uint64_t call_usage__entries__committed_entries(struct core_slice_
 /* How many entries writer `w` has logged in an open transaction. */
 static inline uint64_t call_usage__writers__logged(struct core_slice_u8 state, uint64_t w)
 {
-    struct model__Writer t3;
+    uint64_t t5;
 
-    t3 = base_state__writers__writer(state, w);
-    return base_state__writers__count_for(t3);
+    t5 = 128u + (24u * w);
+    return base_state__writers__count_for((struct model__Writer){.mode = (uint64_t)state.ptr[(size_t)(104u + w)],
+            .home = core_load_8(state.ptr + (size_t)t5), .first = core_load_8(state.ptr + (size_t)(t5 + 8u)), .count = core_load_8(state.ptr
+            + (size_t)(t5 + 16u)) + 1u});
 }
 
 /* How many entries the eight writers have logged in open transactions. */
@@ -5415,8 +5377,11 @@ static inline uint64_t call_usage__rest(uint64_t places, uint64_t used)
 static inline struct model__Holder call_usage__writers__lower(struct core_slice_u8 state, uint64_t w, struct model__Holder h)
 {
     struct model__Writer t4;
+    uint64_t t10;
 
-    t4 = base_state__writers__writer(state, w);
+    t10 = 128u + (24u * w);
+    t4 = (struct model__Writer){.mode = (uint64_t)state.ptr[(size_t)(104u + w)], .home = core_load_8(state.ptr + (size_t)t10),
+            .first = core_load_8(state.ptr + (size_t)(t10 + 8u)), .count = core_load_8(state.ptr + (size_t)(t10 + 16u)) + 1u};
     if (!(3u <= t4.mode)) {
         return h;
     }
