@@ -466,91 +466,55 @@ static inline bool base_order__numbers__bounds_in_order(struct slice_u8 s, uint6
     return load_8(s.ptr + 64u) <= (low + all);
 }
 
-/* Whether the record of a writer that holds a block for a home below D and has logged entries is in order: the positions since
-   its first one are among those of the log, and hold its entries. */
-static inline bool base_order__quick__logged_in_order(struct model__State st, uint64_t low, uint64_t all, struct model__Writer r)
+/* Whether the record of writer `t` / 8 is in order, which holds a block: its home is below D, and if it has logged entries, which
+   bit `t` of twice the word of the modes tells, the positions since its first one are among those of the log, and hold its
+   entries. Bit `t` of the word itself is its mode's second one, so that its numbers begin three bytes further on for each bit. */
+static inline bool base_order__records__record_in_order(struct slice_u8 s, uint64_t homes, uint64_t low, uint64_t all,
+        uint64_t twice, uint64_t t)
 {
-    uint64_t t5;
-    (void)st;
+    uint64_t t7, t8;
 
-    t5 = (low + all) - r.first;
-    if (all < t5) {
+    t7 = (3u * t) + 125u;
+    if (homes <= load_8(s.ptr + (size_t)t7)) {
         return false;
     }
-    return (r.count - 1u) < t5;
-}
-
-/* Whether the record of a writer that is neither idle nor without a block is in order in a strip whose group numbers and places
-   filled are. */
-static inline bool base_order__quick__record_in_order(struct model__State st, uint64_t low, uint64_t all, struct model__Writer r)
-{
-    if (st.homes <= r.home) {
+    if (((twice >> (t & 63u)) % 2u) == 0u) {
+        return true;
+    }
+    t8 = (low + all) - load_8(s.ptr + (size_t)(t7 + 8u));
+    if (all < t8) {
         return false;
     }
-    if (r.mode == 3u) {
-        return base_order__quick__logged_in_order(st, low, all, r);
-    }
-    return r.mode < 3u;
+    return load_8(s.ptr + (size_t)(t7 + 16u)) < t8;
 }
 
-/* Whether the records of all eight writers are in order where nothing is promised. Their modes are read as one word, and only
-   writers are visited of whose mode a bit but the lowest is set. */
-static inline bool base_order__quick__records_in_order(struct slice_u8 s, struct model__State st, uint64_t low, uint64_t all)
+/* Whether the records of all eight writers are in order, whatever is promised to them. */
+static inline bool base_order__records__records_in_order(struct slice_u8 s, uint64_t homes, uint64_t low, uint64_t all)
 {
-    uint64_t t5, t117, t118;
-    bool t8;
+    uint64_t t5, t6, t7;
+    bool t11;
 
-    t5 = load_8(s.ptr + 104u) & UINT64_C(0xfefefefefefefefe);
-    while (t5 != 0u) {
-        t117 = (uint64_t)trailing_zeros(t5) / 8u;
-        t118 = 128u + (24u * t117);
-        t8 = base_order__quick__record_in_order(st, low, all, (struct model__Writer){.mode = (uint64_t)s.ptr[(size_t)(104u
-                + t117)], .home = load_8(s.ptr + (size_t)t118), .first = load_8(s.ptr + (size_t)(t118 + 8u)),
-                .count = load_8(s.ptr + (size_t)(t118 + 16u)) + 1u});
-        if (!t8) {
+    t5 = load_8(s.ptr + 104u);
+    t6 = t5 & UINT64_C(0xfefefefefefefefe);
+    if (t6 == 0u) {
+        return true;
+    }
+    if ((t5 & UINT64_C(0xfcfcfcfcfcfcfcfc)) != 0u) {
+        return false;
+    }
+    t7 = 2u * t5;
+    while (t6 != 0u) {
+        t11 = base_order__records__record_in_order(s, homes, low, all, t7, (uint64_t)trailing_zeros(t6));
+        if (!t11) {
             return false;
         }
-        t5 = t5 & (t5 - 1u);
+        t6 = t6 & (t6 - 1u);
     }
     return true;
 }
 
-/* Question 2 for a log of `groups` groups and `homes` homes: 0 if the strip is seen to be in order, else 2, which
-   `whole_in_order` may still deny. [S-48] */
-static inline uint64_t base_order__quick__quick_answer(struct slice_u8 s, uint64_t groups, uint64_t homes)
-{
-    uint64_t t4, t5, t6, t7, t638, t639;
-    bool t8;
-
-    if (!(((load_8(s.ptr + 88u) | load_8(s.ptr + 72u)) | load_8(s.ptr + 80u)) == 0u)) {
-        return 2u;
-    }
-    t8 = base_order__numbers__groups_in_order(s, groups, homes);
-    if (!t8) {
-        return 2u;
-    }
-    t4 = load_8(s.ptr + 16u);
-    t5 = 7u * t4;
-    t6 = 7u * (load_8(s.ptr + 24u) - t4);
-    t7 = t6 + load_8(s.ptr + 32u);
-    t8 = base_order__numbers__bounds_in_order(s, t5, t6, t7);
-    if (!t8) {
-        return 2u;
-    }
-    t638 = load_8(s.ptr);
-    t639 = load_8(s.ptr + 8u);
-    t8 = base_order__quick__records_in_order(s, (struct model__State){.groups = t638, .homes = t639, .start = load_8(s.ptr + 16u),
-            .next = load_8(s.ptr + 24u), .filled = load_8(s.ptr + 32u), .settled = load_8(s.ptr + 40u), .fenced = load_8(s.ptr
-            + 48u), .durable = load_8(s.ptr + 56u), .last = load_8(s.ptr + 64u), .round = load_8(s.ptr + 88u),
-            .cursor = load_8(s.ptr + 96u)}, t5, t7);
-    if (!t8) {
-        return 2u;
-    }
-    return 0u;
-}
-
 /* Whether the position that a round has fixed lies from the settled to the fenced one, or there is no round. */
-static inline bool base_order__whole__round_in_order(struct model__State st)
+static inline bool base_order__pending__round_in_order(struct model__State st)
 {
     if (st.round == 0u) {
         return true;
@@ -559,6 +523,57 @@ static inline bool base_order__whole__round_in_order(struct model__State st)
         return false;
     }
     return (st.round - 1u) <= st.fenced;
+}
+
+/* How many places the promise to writer `w` asks for, and more than any log has if the writer is idle. */
+static inline uint64_t base_order__pending__asked(struct slice_u8 s, uint64_t w)
+{
+    uint64_t t3;
+
+    t3 = load_2(s.ptr + (size_t)(72u + (2u * w)));
+    if (t3 == 0u) {
+        return 0u;
+    }
+    if ((uint64_t)s.ptr[(size_t)(104u + w)] == 0u) {
+        return 7169u;
+    }
+    return t3;
+}
+
+/* The same of four writers from `from` on. Their promises are read as one word first: mostly there is none. */
+static inline uint64_t base_order__pending__asked_of_four(struct slice_u8 s, uint64_t from)
+{
+    uint64_t t3, t7, t9, t11;
+
+    if (load_8(s.ptr + (size_t)(72u + (2u * from))) == 0u) {
+        return 0u;
+    }
+    t3 = base_order__pending__asked(s, from);
+    t7 = base_order__pending__asked(s, from + 1u);
+    t9 = base_order__pending__asked(s, from + 2u);
+    t11 = base_order__pending__asked(s, from + 3u);
+    return ((t3 + t7) + t9) + t11;
+}
+
+/* Whether the round is in order, and there are as many places as the promises ask for. */
+static inline bool base_order__pending__pending_in_order(struct slice_u8 s)
+{
+    struct model__State t2;
+    bool t3;
+    uint64_t t5, t6, t10, t11;
+
+    t10 = load_8(s.ptr);
+    t11 = load_8(s.ptr + 8u);
+    t2 = (struct model__State){.groups = t10, .homes = t11, .start = load_8(s.ptr + 16u), .next = load_8(s.ptr + 24u),
+            .filled = load_8(s.ptr + 32u), .settled = load_8(s.ptr + 40u), .fenced = load_8(s.ptr + 48u), .durable = load_8(s.ptr
+            + 56u), .last = load_8(s.ptr + 64u), .round = load_8(s.ptr + 88u), .cursor = load_8(s.ptr + 96u)};
+    t3 = base_order__pending__round_in_order(t2);
+    if (!t3) {
+        return false;
+    }
+    t5 = base_order__pending__asked_of_four(s, 0u);
+    t6 = base_order__pending__asked_of_four(s, 4u);
+    return (t5 + t6) <= ((7u * (t2.start + t2.groups)) - ((7u * t2.next) + t2.filled));
 }
 
 /* Whether nothing is promised to any writer: the eight promises are zero as two words. */
@@ -570,124 +585,11 @@ static inline bool base_state__promises__none_promised(struct slice_u8 s)
     return load_8(s.ptr + 80u) == 0u;
 }
 
-/* How many places are promised to the eight writers together, one after the other. */
-static inline uint64_t base_state__promises__promised_each(struct slice_u8 s)
-{
-    uint64_t t2, t3;
-
-    t2 = 0u;
-    t3 = 0u;
-    while (t3 < 8u) {
-        t2 = t2 + load_2(s.ptr + (size_t)(72u + (2u * t3)));
-        t3 = t3 + 1u;
-    }
-    return t2;
-}
-
-/* How many places are promised to the eight writers together, mostly none. */
-static inline uint64_t base_state__promises__promised(struct slice_u8 s)
-{
-    bool t2;
-
-    t2 = base_state__promises__none_promised(s);
-    if (t2) {
-        return 0u;
-    }
-    return base_state__promises__promised_each(s);
-}
-
-/* Whether a writer's record is in order in a strip with the numbers `st`. */
-static inline bool base_order__whole__writer_in_order(struct model__State st, struct model__Writer r)
-{
-    uint64_t t3;
-
-    if (r.mode < 2u) {
-        return true;
-    }
-    if (3u < r.mode) {
-        return false;
-    }
-    if (st.homes <= r.home) {
-        return false;
-    }
-    if (r.mode < 3u) {
-        return true;
-    }
-    if (r.first < (7u * st.start)) {
-        return false;
-    }
-    t3 = (7u * st.next) + st.filled;
-    if (t3 <= r.first) {
-        return false;
-    }
-    if (r.count == 0u) {
-        return false;
-    }
-    if ((t3 - r.first) < r.count) {
-        return false;
-    }
-    return true;
-}
-
-/* Whether the record of writer `w` is in order in the strip `s` with the numbers `st`, and nothing is promised to it while it is
-   idle. */
-static inline bool base_order__whole__writer_at_in_order(struct slice_u8 s, struct model__State st, uint64_t w)
-{
-    struct model__Writer t4;
-    bool t5;
-    uint64_t t10;
-
-    t10 = 128u + (24u * w);
-    t4 = (struct model__Writer){.mode = (uint64_t)s.ptr[(size_t)(104u + w)], .home = load_8(s.ptr + (size_t)t10),
-            .first = load_8(s.ptr + (size_t)(t10 + 8u)), .count = load_8(s.ptr + (size_t)(t10 + 16u)) + 1u};
-    t5 = base_order__whole__writer_in_order(st, t4);
-    if (!t5) {
-        return false;
-    }
-    if (1u <= t4.mode) {
-        return true;
-    }
-    return load_2(s.ptr + (size_t)(72u + (2u * w))) == 0u;
-}
-
-/* Whether the records of all eight writers are in order in the strip `s` with the numbers `st`. */
-static inline bool base_order__whole__writers_in_order(struct slice_u8 s, struct model__State st)
-{
-    uint64_t t3;
-    bool t4;
-
-    t3 = 0u;
-    while (t3 < 8u) {
-        t4 = base_order__whole__writer_at_in_order(s, st, t3);
-        if (!t4) {
-            return false;
-        }
-        t3 = t3 + 1u;
-    }
-    return true;
-}
-
-/* The rest of question 2 where the numbers but the round are in order: the round, the promises and the writers. */
-static inline bool base_order__whole__rest_in_order(struct slice_u8 s, struct model__State st)
-{
-    bool t3;
-    uint64_t t6;
-
-    t3 = base_order__whole__round_in_order(st);
-    if (!t3) {
-        return false;
-    }
-    t6 = base_state__promises__promised(s);
-    if (((7u * (st.start + st.groups)) - ((7u * st.next) + st.filled)) < t6) {
-        return false;
-    }
-    return base_order__whole__writers_in_order(s, st);
-}
-
-/* Question 2 for a log of `groups` groups and `homes` homes, whatever is promised and whether a round is under way. [S-48] */
+/* Question 2 for a log of `groups` groups and `homes` homes. What is mostly not there is asked for last, by a function of its
+   own. [S-48] */
 static inline bool base_order__whole__whole_in_order(struct slice_u8 s, uint64_t groups, uint64_t homes)
 {
-    uint64_t t4, t6, t323, t324;
+    uint64_t t4, t5, t6, t7;
     bool t8;
 
     t8 = base_order__numbers__groups_in_order(s, groups, homes);
@@ -695,37 +597,40 @@ static inline bool base_order__whole__whole_in_order(struct slice_u8 s, uint64_t
         return false;
     }
     t4 = load_8(s.ptr + 16u);
+    t5 = 7u * t4;
     t6 = 7u * (load_8(s.ptr + 24u) - t4);
-    t8 = base_order__numbers__bounds_in_order(s, 7u * t4, t6, t6 + load_8(s.ptr + 32u));
+    t7 = t6 + load_8(s.ptr + 32u);
+    t8 = base_order__numbers__bounds_in_order(s, t5, t6, t7);
     if (!t8) {
         return false;
     }
-    t323 = load_8(s.ptr);
-    t324 = load_8(s.ptr + 8u);
-    return base_order__whole__rest_in_order(s, (struct model__State){.groups = t323, .homes = t324, .start = load_8(s.ptr + 16u),
-            .next = load_8(s.ptr + 24u), .filled = load_8(s.ptr + 32u), .settled = load_8(s.ptr + 40u), .fenced = load_8(s.ptr
-            + 48u), .durable = load_8(s.ptr + 56u), .last = load_8(s.ptr + 64u), .round = load_8(s.ptr + 88u),
-            .cursor = load_8(s.ptr + 96u)});
+    t8 = base_order__records__records_in_order(s, homes, t5, t7);
+    if (!t8) {
+        return false;
+    }
+    if (load_8(s.ptr + 88u) != 0u) {
+        return base_order__pending__pending_in_order(s);
+    }
+    t8 = base_state__promises__none_promised(s);
+    if (!t8) {
+        return base_order__pending__pending_in_order(s);
+    }
+    return true;
 }
 
 /* Questions 1 and 2: 0 if the lengths are right and the strip is in order, else the number of the refusal. */
 static inline uint64_t call_ask__state_answer(struct slice_u8 log, struct slice_u8 area, struct slice_u8 state)
 {
-    uint64_t t4, t5, t9;
-    bool t6, t7;
+    uint64_t t4;
+    bool t6;
 
     t6 = call_ask__lengths_right(log, area, state);
     if (!t6) {
         return 1u;
     }
     t4 = base_areas__lengths__log_groups((uint64_t)log.len);
-    t5 = (uint64_t)area.len / 64u;
-    t9 = base_order__quick__quick_answer(state, t4, t5);
-    if (t9 == 0u) {
-        return 0u;
-    }
-    t7 = base_order__whole__whole_in_order(state, t4, t5);
-    if (!t7) {
+    t6 = base_order__whole__whole_in_order(state, t4, (uint64_t)area.len / 64u);
+    if (!t6) {
         return 2u;
     }
     return 0u;
@@ -747,20 +652,40 @@ static inline uint64_t call_writer__writer_answer(struct slice_u8 log, struct sl
     return 0u;
 }
 
+/* The count that is kept as `less`. */
+static inline uint64_t base_state__writers__one_more(uint64_t less)
+{
+    if (less == UINT64_C(0xffffffffffffffff)) {
+        return 0u;
+    }
+    return less + 1u;
+}
+
+/* Reads the four numbers of writer `w`. */
+static inline struct model__Writer base_state__writers__writer(struct slice_u8 s, uint64_t w)
+{
+    uint64_t t3, t4, t5, t6, t7;
+
+    t3 = 128u + (24u * w);
+    t4 = (uint64_t)s.ptr[(size_t)(104u + w)];
+    t5 = load_8(s.ptr + (size_t)t3);
+    t6 = load_8(s.ptr + (size_t)(t3 + 8u));
+    t7 = base_state__writers__one_more(load_8(s.ptr + (size_t)(t3 + 16u)));
+    return (struct model__Writer){.mode = t4, .home = t5, .first = t6, .count = t7};
+}
+
 /* Whether a writer may abort: 0, or the number of the refusal. */
 static inline uint64_t call_writer__abort_answer(struct slice_u8 log, struct slice_u8 area, struct slice_u8 state,
         uint64_t writer)
 {
-    uint64_t t5, t11;
+    uint64_t t5;
     struct model__Writer t7;
 
     t5 = call_writer__writer_answer(log, area, state, writer);
     if (t5 != 0u) {
         return t5;
     }
-    t11 = 128u + (24u * writer);
-    t7 = (struct model__Writer){.mode = (uint64_t)state.ptr[(size_t)(104u + writer)], .home = load_8(state.ptr + (size_t)t11),
-            .first = load_8(state.ptr + (size_t)(t11 + 8u)), .count = load_8(state.ptr + (size_t)(t11 + 16u)) + 1u};
+    t7 = base_state__writers__writer(state, writer);
     if (!(1u <= t7.mode)) {
         return 7u;
     }
@@ -777,27 +702,35 @@ static inline struct model__Writer base_writers__places__aborted(struct model__W
     return t2;
 }
 
+/* A count as it is kept: less one, modulo 2^64. */
+static inline uint64_t base_state__writers__less_one(uint64_t count)
+{
+    if (count == 0u) {
+        return UINT64_C(0xffffffffffffffff);
+    }
+    return count - 1u;
+}
+
 /* Stores `r` as the four numbers of writer `w`, and leaves the rest of the strip as it was. */
 static inline void base_state__writers__set_writer(struct slice_mut_u8 s, uint64_t w, struct model__Writer r)
 {
-    uint64_t t4;
+    uint64_t t4, t15;
 
     t4 = 128u + (24u * w);
     s.ptr[(size_t)(104u + w)] = (uint8_t)(r.mode % 256u);
     store_8(s.ptr + (size_t)t4, r.home);
     store_8(s.ptr + (size_t)(t4 + 8u), r.first);
-    store_8(s.ptr + (size_t)(t4 + 16u), r.count - 1u);
+    t15 = base_state__writers__less_one(r.count);
+    store_8(s.ptr + (size_t)(t4 + 16u), t15);
 }
 
 /* Ends the transaction in the record of writer `w`. */
 static inline void base_writers__abort(struct slice_mut_u8 s, uint64_t w)
 {
-    struct model__Writer t9;
-    uint64_t t11;
+    struct model__Writer t3, t9;
 
-    t11 = 128u + (24u * w);
-    t9 = base_writers__places__aborted((struct model__Writer){.mode = (uint64_t)s.ptr[(size_t)(104u + w)], .home = load_8(s.ptr
-            + (size_t)t11), .first = load_8(s.ptr + (size_t)(t11 + 8u)), .count = load_8(s.ptr + (size_t)(t11 + 16u)) + 1u});
+    t3 = base_state__writers__writer((struct slice_u8){s.ptr, s.len}, w);
+    t9 = base_writers__places__aborted(t3);
     base_state__writers__set_writer(s, w, t9);
 }
 
@@ -827,16 +760,14 @@ static inline struct call_ask__Reply kagutin__kagutin_abort(struct slice_u8 log,
 static inline uint64_t call_writer__begin_answer(struct slice_u8 log, struct slice_u8 area, struct slice_u8 state,
         uint64_t writer)
 {
-    uint64_t t5, t11;
+    uint64_t t5;
     struct model__Writer t8;
 
     t5 = call_writer__writer_answer(log, area, state, writer);
     if (t5 != 0u) {
         return t5;
     }
-    t11 = 128u + (24u * writer);
-    t8 = (struct model__Writer){.mode = (uint64_t)state.ptr[(size_t)(104u + writer)], .home = load_8(state.ptr + (size_t)t11),
-            .first = load_8(state.ptr + (size_t)(t11 + 8u)), .count = load_8(state.ptr + (size_t)(t11 + 16u)) + 1u};
+    t8 = base_state__writers__writer(state, writer);
     if (1u <= t8.mode) {
         return 6u;
     }
@@ -856,12 +787,10 @@ static inline struct model__Writer base_writers__places__begun(struct model__Wri
 /* Begins a transaction in the record of writer `w`. */
 static inline void base_writers__begin(struct slice_mut_u8 s, uint64_t w)
 {
-    struct model__Writer t9;
-    uint64_t t11;
+    struct model__Writer t3, t9;
 
-    t11 = 128u + (24u * w);
-    t9 = base_writers__places__begun((struct model__Writer){.mode = (uint64_t)s.ptr[(size_t)(104u + w)], .home = load_8(s.ptr
-            + (size_t)t11), .first = load_8(s.ptr + (size_t)(t11 + 8u)), .count = load_8(s.ptr + (size_t)(t11 + 16u)) + 1u});
+    t3 = base_state__writers__writer((struct slice_u8){s.ptr, s.len}, w);
+    t9 = base_writers__places__begun(t3);
     base_state__writers__set_writer(s, w, t9);
 }
 
@@ -928,6 +857,20 @@ static inline uint64_t call_ask__newest_answer(struct slice_u8 log, struct slice
     return call_ask__state_answer(log, area, state);
 }
 
+/* How many places are promised to the eight writers together, one after the other. */
+static inline uint64_t base_state__promises__promised_each(struct slice_u8 s)
+{
+    uint64_t t2, t3;
+
+    t2 = 0u;
+    t3 = 0u;
+    while (t3 < 8u) {
+        t2 = t2 + load_2(s.ptr + (size_t)(72u + (2u * t3)));
+        t3 = t3 + 1u;
+    }
+    return t2;
+}
+
 /* Whether an entry of writer `w` finds a place: one that is promised to it, or one that is promised to nobody. */
 static inline bool base_state__promises__room_for(struct slice_u8 s, struct model__State st, uint64_t w)
 {
@@ -976,7 +919,7 @@ static inline uint64_t call_store__entry__log_answer(struct slice_u8 state, uint
 static inline uint64_t call_commit__commit_answer(struct slice_u8 log, struct slice_u8 area, struct slice_u8 state,
         struct slice_u8 newest, struct slice_u8 batch, uint64_t writer)
 {
-    uint64_t t7, t14;
+    uint64_t t7;
     struct model__Writer t8;
 
     t7 = call_ask__newest_answer(log, area, state, newest);
@@ -986,9 +929,7 @@ static inline uint64_t call_commit__commit_answer(struct slice_u8 log, struct sl
     if (8u <= writer) {
         return 4u;
     }
-    t14 = 128u + (24u * writer);
-    t8 = (struct model__Writer){.mode = (uint64_t)state.ptr[(size_t)(104u + writer)], .home = load_8(state.ptr + (size_t)t14),
-            .first = load_8(state.ptr + (size_t)(t14 + 8u)), .count = load_8(state.ptr + (size_t)(t14 + 16u)) + 1u};
+    t8 = base_state__writers__writer(state, writer);
     if (!(1u <= t8.mode)) {
         return 7u;
     }
@@ -1876,17 +1817,18 @@ static inline uint64_t call_commit__commit_held(struct slice_mut_u8 log, struct 
 static inline uint64_t call_commit__commit_next(struct slice_mut_u8 log, struct slice_u8 area, struct slice_mut_u8 state,
         struct slice_mut_u8 newest, struct slice_mut_u8 batch, uint64_t w)
 {
-    uint64_t t22, t23, t1156;
+    struct model__State t7;
+    struct model__Writer t8;
+    uint64_t t22, t23;
 
     t22 = load_8(state.ptr);
     t23 = load_8(state.ptr + 8u);
-    t1156 = 128u + (24u * w);
-    return call_commit__commit_held(log, area, state, newest, batch, (struct model__State){.groups = t22, .homes = t23,
-            .start = load_8(state.ptr + 16u), .next = load_8(state.ptr + 24u), .filled = load_8(state.ptr + 32u),
-            .settled = load_8(state.ptr + 40u), .fenced = load_8(state.ptr + 48u), .durable = load_8(state.ptr + 56u),
-            .last = load_8(state.ptr + 64u), .round = load_8(state.ptr + 88u), .cursor = load_8(state.ptr + 96u)},
-            (struct model__Writer){.mode = (uint64_t)state.ptr[(size_t)(104u + w)], .home = load_8(state.ptr + (size_t)t1156),
-            .first = load_8(state.ptr + (size_t)(t1156 + 8u)), .count = load_8(state.ptr + (size_t)(t1156 + 16u)) + 1u}, w);
+    t7 = (struct model__State){.groups = t22, .homes = t23, .start = load_8(state.ptr + 16u), .next = load_8(state.ptr + 24u),
+            .filled = load_8(state.ptr + 32u), .settled = load_8(state.ptr + 40u), .fenced = load_8(state.ptr + 48u),
+            .durable = load_8(state.ptr + 56u), .last = load_8(state.ptr + 64u), .round = load_8(state.ptr + 88u),
+            .cursor = load_8(state.ptr + 96u)};
+    t8 = base_state__writers__writer((struct slice_u8){state.ptr, state.len}, w);
+    return call_commit__commit_held(log, area, state, newest, batch, t7, t8, w);
 }
 
 /* Commits a writer's open transaction: its held block is logged as the closing entry, whose position + 1 is the ticket, and for
@@ -1894,7 +1836,7 @@ static inline uint64_t call_commit__commit_next(struct slice_mut_u8 log, struct 
 static inline struct call_ask__Reply call_commit__commit(struct slice_mut_u8 log, struct slice_u8 area, struct slice_mut_u8 state,
         struct slice_mut_u8 newest, struct slice_mut_u8 batch, uint64_t writer)
 {
-    uint64_t t7, t8, t12, t41, t367, t368;
+    uint64_t t7, t8, t12, t43, t44;
     struct model__Writer t9;
     struct model__State t10;
 
@@ -1904,16 +1846,14 @@ static inline struct call_ask__Reply call_commit__commit(struct slice_mut_u8 log
         return (struct call_ask__Reply){.code = t7, .figure = 0u, .size = 0u};
     }
     t8 = writer;
-    t41 = 128u + (24u * t8);
-    t9 = (struct model__Writer){.mode = (uint64_t)state.ptr[(size_t)(104u + t8)], .home = load_8(state.ptr + (size_t)t41),
-            .first = load_8(state.ptr + (size_t)(t41 + 8u)), .count = load_8(state.ptr + (size_t)(t41 + 16u)) + 1u};
+    t9 = base_state__writers__writer((struct slice_u8){state.ptr, state.len}, t8);
     if (!(2u <= t9.mode)) {
         call_commit__commit_none(state, t8);
         return (struct call_ask__Reply){.code = 0u, .figure = 0u, .size = 0u};
     }
-    t367 = load_8(state.ptr);
-    t368 = load_8(state.ptr + 8u);
-    t10 = (struct model__State){.groups = t367, .homes = t368, .start = load_8(state.ptr + 16u), .next = load_8(state.ptr + 24u),
+    t43 = load_8(state.ptr);
+    t44 = load_8(state.ptr + 8u);
+    t10 = (struct model__State){.groups = t43, .homes = t44, .start = load_8(state.ptr + 16u), .next = load_8(state.ptr + 24u),
             .filled = load_8(state.ptr + 32u), .settled = load_8(state.ptr + 40u), .fenced = load_8(state.ptr + 48u),
             .durable = load_8(state.ptr + 56u), .last = load_8(state.ptr + 64u), .round = load_8(state.ptr + 88u),
             .cursor = load_8(state.ptr + 96u)};
@@ -2493,7 +2433,7 @@ static inline void call_read__blocks__show(struct slice_u8 log, struct slice_u8 
         struct slice_u8 newest, struct slice_mut_u8 block, uint64_t writer, uint64_t home)
 {
     struct model__State t8;
-    uint64_t t9, t11, t26, t27, t1160;
+    uint64_t t9, t11, t26, t27;
     struct model__Writer t10;
     bool t12;
 
@@ -2504,9 +2444,7 @@ static inline void call_read__blocks__show(struct slice_u8 log, struct slice_u8 
             .durable = load_8(state.ptr + 56u), .last = load_8(state.ptr + 64u), .round = load_8(state.ptr + 88u),
             .cursor = load_8(state.ptr + 96u)};
     t9 = writer;
-    t1160 = 128u + (24u * t9);
-    t10 = (struct model__Writer){.mode = (uint64_t)state.ptr[(size_t)(104u + t9)], .home = load_8(state.ptr + (size_t)t1160),
-            .first = load_8(state.ptr + (size_t)(t1160 + 8u)), .count = load_8(state.ptr + (size_t)(t1160 + 16u)) + 1u};
+    t10 = base_state__writers__writer(state, t9);
     t12 = call_read__blocks__holds_home(t10, home);
     if (t12) {
         call_read__blocks__show_held(block, state, t9);
@@ -2563,6 +2501,18 @@ static inline struct call_ask__Reply kagutin__kagutin_fetch(struct slice_u8 log,
         struct slice_u8 newest, struct slice_mut_u8 blocks, uint64_t writer, uint64_t home)
 {
     return call_many_fetch__fetches__fetch(log, area, state, newest, blocks, writer, home);
+}
+
+/* How many places are promised to the eight writers together, mostly none. */
+static inline uint64_t base_state__promises__promised(struct slice_u8 s)
+{
+    bool t2;
+
+    t2 = base_state__promises__none_promised(s);
+    if (t2) {
+        return 0u;
+    }
+    return base_state__promises__promised_each(s);
 }
 
 /* Whether a flush leaves as many places as are promised. */
@@ -3911,8 +3861,8 @@ static inline struct call_ask__Reply kagutin__kagutin_open(struct slice_mut_u8 l
 static inline uint64_t call_ask__block_answer(struct slice_u8 log, struct slice_u8 area, struct slice_u8 state,
         struct slice_u8 block)
 {
-    uint64_t t5, t6, t10;
-    bool t7;
+    uint64_t t5;
+    bool t7, t8;
 
     t7 = call_ask__lengths_right(log, area, state);
     if (!t7) {
@@ -3922,13 +3872,8 @@ static inline uint64_t call_ask__block_answer(struct slice_u8 log, struct slice_
         return 1u;
     }
     t5 = base_areas__lengths__log_groups((uint64_t)log.len);
-    t6 = (uint64_t)area.len / 64u;
-    t10 = base_order__quick__quick_answer(state, t5, t6);
-    if (t10 == 0u) {
-        return 0u;
-    }
-    t7 = base_order__whole__whole_in_order(state, t5, t6);
-    if (!t7) {
+    t8 = base_order__whole__whole_in_order(state, t5, (uint64_t)area.len / 64u);
+    if (!t8) {
         return 2u;
     }
     return 0u;
@@ -4524,7 +4469,7 @@ static inline bool call_rights__may_store(struct slice_u8 log, struct slice_u8 a
 static inline uint64_t call_store__stores__store_answer(struct slice_u8 log, struct slice_u8 area, struct slice_u8 state,
         struct slice_u8 block, struct slice_u8 batch, uint64_t writer, uint64_t home)
 {
-    uint64_t t8, t18;
+    uint64_t t8;
     struct model__Writer t9;
     bool t10;
 
@@ -4542,9 +4487,7 @@ static inline uint64_t call_store__stores__store_answer(struct slice_u8 log, str
     if (!t10) {
         return 19u;
     }
-    t18 = 128u + (24u * writer);
-    t9 = (struct model__Writer){.mode = (uint64_t)state.ptr[(size_t)(104u + writer)], .home = load_8(state.ptr + (size_t)t18),
-            .first = load_8(state.ptr + (size_t)(t18 + 8u)), .count = load_8(state.ptr + (size_t)(t18 + 16u)) + 1u};
+    t9 = base_state__writers__writer(state, writer);
     if (!(1u <= t9.mode)) {
         return 7u;
     }
@@ -4669,24 +4612,25 @@ static inline uint64_t call_store__stores__store_other(struct slice_mut_u8 log, 
 static inline uint64_t call_store__stores__store_next(struct slice_mut_u8 log, struct slice_mut_u8 state, struct slice_u8 block,
         struct slice_mut_u8 batch, uint64_t w, uint64_t home)
 {
-    uint64_t t20, t21, t1154;
+    struct model__State t7;
+    struct model__Writer t8;
+    uint64_t t20, t21;
 
     t20 = load_8(state.ptr);
     t21 = load_8(state.ptr + 8u);
-    t1154 = 128u + (24u * w);
-    return call_store__stores__store_other(log, state, block, batch, (struct model__State){.groups = t20, .homes = t21,
-            .start = load_8(state.ptr + 16u), .next = load_8(state.ptr + 24u), .filled = load_8(state.ptr + 32u),
-            .settled = load_8(state.ptr + 40u), .fenced = load_8(state.ptr + 48u), .durable = load_8(state.ptr + 56u),
-            .last = load_8(state.ptr + 64u), .round = load_8(state.ptr + 88u), .cursor = load_8(state.ptr + 96u)},
-            (struct model__Writer){.mode = (uint64_t)state.ptr[(size_t)(104u + w)], .home = load_8(state.ptr + (size_t)t1154),
-            .first = load_8(state.ptr + (size_t)(t1154 + 8u)), .count = load_8(state.ptr + (size_t)(t1154 + 16u)) + 1u}, w, home);
+    t7 = (struct model__State){.groups = t20, .homes = t21, .start = load_8(state.ptr + 16u), .next = load_8(state.ptr + 24u),
+            .filled = load_8(state.ptr + 32u), .settled = load_8(state.ptr + 40u), .fenced = load_8(state.ptr + 48u),
+            .durable = load_8(state.ptr + 56u), .last = load_8(state.ptr + 64u), .round = load_8(state.ptr + 88u),
+            .cursor = load_8(state.ptr + 96u)};
+    t8 = base_state__writers__writer((struct slice_u8){state.ptr, state.len}, w);
+    return call_store__stores__store_other(log, state, block, batch, t7, t8, w, home);
 }
 
 /* Holds a block for a home in a writer's open transaction; a block held for another home is logged first. */
 static inline struct call_ask__Reply call_store__stores__store(struct slice_mut_u8 log, struct slice_u8 area,
         struct slice_mut_u8 state, struct slice_u8 block, struct slice_mut_u8 batch, uint64_t writer, uint64_t home)
 {
-    uint64_t t8, t9, t11, t36;
+    uint64_t t8, t9, t11;
     struct model__Writer t10;
 
     t8 = call_store__stores__store_answer((struct slice_u8){log.ptr, log.len}, area, (struct slice_u8){state.ptr, state.len},
@@ -4695,9 +4639,7 @@ static inline struct call_ask__Reply call_store__stores__store(struct slice_mut_
         return (struct call_ask__Reply){.code = t8, .figure = 0u, .size = 0u};
     }
     t9 = writer;
-    t36 = 128u + (24u * t9);
-    t10 = (struct model__Writer){.mode = (uint64_t)state.ptr[(size_t)(104u + t9)], .home = load_8(state.ptr + (size_t)t36),
-            .first = load_8(state.ptr + (size_t)(t36 + 8u)), .count = load_8(state.ptr + (size_t)(t36 + 16u)) + 1u};
+    t10 = base_state__writers__writer((struct slice_u8){state.ptr, state.len}, t9);
     if (!(2u <= t10.mode)) {
         call_store__stores__store_first(state, block, t10, t9, home);
         return (struct call_ask__Reply){.code = 0u, .figure = 0u, .size = 0u};
@@ -4742,7 +4684,7 @@ static inline uint64_t call_many__questions__log_all_answer(struct slice_u8 stat
 static inline uint64_t call_many__questions__transact_answer(struct slice_u8 log, struct slice_u8 area, struct slice_u8 state,
         struct slice_u8 newest, struct slice_u8 blocks, struct slice_u8 batch, uint64_t writer, uint64_t home)
 {
-    uint64_t t9, t10, t19, t344, t345;
+    uint64_t t9, t10, t20, t21;
     bool t11;
     struct model__Writer t16;
 
@@ -4755,15 +4697,13 @@ static inline uint64_t call_many__questions__transact_answer(struct slice_u8 log
     if (!t11) {
         return 19u;
     }
-    t19 = 128u + (24u * writer);
-    t16 = (struct model__Writer){.mode = (uint64_t)state.ptr[(size_t)(104u + writer)], .home = load_8(state.ptr + (size_t)t19),
-            .first = load_8(state.ptr + (size_t)(t19 + 8u)), .count = load_8(state.ptr + (size_t)(t19 + 16u)) + 1u};
+    t16 = base_state__writers__writer(state, writer);
     if (1u <= t16.mode) {
         return 6u;
     }
-    t344 = load_8(state.ptr);
-    t345 = load_8(state.ptr + 8u);
-    return call_many__questions__log_all_answer(state, (struct model__State){.groups = t344, .homes = t345,
+    t20 = load_8(state.ptr);
+    t21 = load_8(state.ptr + 8u);
+    return call_many__questions__log_all_answer(state, (struct model__State){.groups = t20, .homes = t21,
             .start = load_8(state.ptr + 16u), .next = load_8(state.ptr + 24u), .filled = load_8(state.ptr + 32u),
             .settled = load_8(state.ptr + 40u), .fenced = load_8(state.ptr + 48u), .durable = load_8(state.ptr + 56u),
             .last = load_8(state.ptr + 64u), .round = load_8(state.ptr + 88u), .cursor = load_8(state.ptr + 96u)}, t10,
@@ -4773,13 +4713,11 @@ static inline uint64_t call_many__questions__transact_answer(struct slice_u8 log
 /* Begins a transaction of the writer `w`, which holds the first of the lent blocks. */
 static inline void call_many__steps__hold_first(struct slice_mut_u8 state, struct slice_u8 blocks, uint64_t w, uint64_t home)
 {
-    uint64_t t18;
+    struct model__Writer t5;
 
     base_writers__begin(state, w);
-    t18 = 128u + (24u * w);
-    call_store__stores__store_first(state, (struct slice_u8){blocks.ptr, (size_t)((uint64_t)64u - 0u)},
-            (struct model__Writer){.mode = (uint64_t)state.ptr[(size_t)(104u + w)], .home = load_8(state.ptr + (size_t)t18),
-            .first = load_8(state.ptr + (size_t)(t18 + 8u)), .count = load_8(state.ptr + (size_t)(t18 + 16u)) + 1u}, w, home);
+    t5 = base_state__writers__writer((struct slice_u8){state.ptr, state.len}, w);
+    call_store__stores__store_first(state, (struct slice_u8){blocks.ptr, (size_t)((uint64_t)64u - 0u)}, t5, w, home);
 }
 
 /* Stores the lent blocks but the first, which is held, by rising home. Returns how many bytes of the batch are written. */
@@ -5307,12 +5245,10 @@ static inline uint64_t call_usage__entries__committed_entries(struct slice_u8 lo
 /* How many entries writer `w` has logged in an open transaction. */
 static inline uint64_t call_usage__writers__logged(struct slice_u8 state, uint64_t w)
 {
-    uint64_t t5;
+    struct model__Writer t3;
 
-    t5 = 128u + (24u * w);
-    return base_state__writers__count_for((struct model__Writer){.mode = (uint64_t)state.ptr[(size_t)(104u + w)],
-            .home = load_8(state.ptr + (size_t)t5), .first = load_8(state.ptr + (size_t)(t5 + 8u)), .count = load_8(state.ptr
-            + (size_t)(t5 + 16u)) + 1u});
+    t3 = base_state__writers__writer(state, w);
+    return base_state__writers__count_for(t3);
 }
 
 /* How many entries the eight writers have logged in open transactions. */
@@ -5356,11 +5292,8 @@ static inline uint64_t call_usage__rest(uint64_t places, uint64_t used)
 static inline struct model__Holder call_usage__writers__lower(struct slice_u8 state, uint64_t w, struct model__Holder h)
 {
     struct model__Writer t4;
-    uint64_t t10;
 
-    t10 = 128u + (24u * w);
-    t4 = (struct model__Writer){.mode = (uint64_t)state.ptr[(size_t)(104u + w)], .home = load_8(state.ptr + (size_t)t10),
-            .first = load_8(state.ptr + (size_t)(t10 + 8u)), .count = load_8(state.ptr + (size_t)(t10 + 16u)) + 1u};
+    t4 = base_state__writers__writer(state, w);
     if (!(3u <= t4.mode)) {
         return h;
     }
