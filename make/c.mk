@@ -9,7 +9,8 @@
 # powerloss-check                the power-loss kit for drivers: finds its six broken ones, passes the good ones
 # snippets-check                 the examples and commands of README, docs and headers: built, run and judged
 # rights-cost                    what questions 19 and 20 cost, by callgrind
-# question-cost                  what question 2 costs; with LIB the archive it is a function of its own
+# question-cost                  what question 2 costs
+# commit-cost                    what a commit of four blocks costs with all its calls
 # wait-cost                      the longest waits: steps, reads, commits and trims over full logs
 # object-cost                    the object's calls on a driver that does nothing
 # worst-check                    the worst cases of every call against their bounds; make/worst.mk
@@ -58,8 +59,9 @@ C_GAUGES_COST = tests/costs/gauges_cost
 C_RIGHTS_COST = tests/costs/rights_cost
 C_QUESTION_COST = tests/costs/question_cost
 C_WAIT_COST = tests/costs/wait_cost
+C_COMMIT_COST = tests/costs/commit_cost
 C_OBJECT_COST = tests/costs/object_cost $(C_STORE)
-C_PROGRAMS = quickstart driver_check store_check reserve_check worn_check many_check heads_check runner_check round_check rights_check file_check create_check kill_check fram_check dump_check format_check reopen_check disk_check seal_check gauges_cost rights_cost question_cost wait_cost object_cost
+C_PROGRAMS = quickstart driver_check store_check reserve_check worn_check many_check heads_check runner_check round_check rights_check file_check create_check kill_check fram_check dump_check format_check reopen_check disk_check seal_check gauges_cost rights_cost question_cost wait_cost commit_cost object_cost
 
 .PHONY: quickstart c-sanitize c-check c-kills c-dist install uninstall c-clean
 
@@ -118,6 +120,7 @@ $(eval $(call C_PROGRAM,rights_cost,$(C_RIGHTS_COST),$(LIB)))
 $(eval $(call C_PROGRAM,question_cost,$(C_QUESTION_COST),$(LIB)))
 $(eval $(call C_PROGRAM,wait_cost,$(C_WAIT_COST),$(LIB)))
 $(eval $(call C_PROGRAM,object_cost,$(C_OBJECT_COST),$(LIB)))
+$(eval $(call C_PROGRAM,commit_cost,$(C_COMMIT_COST),$(LIB)))
 
 c-check: $(C_PROGRAMS:%=$(C_OUT)/%) c-sanitize
 	CC="$(CC)" LIB="$(LIB)" C_LIBS="$(C_LIBS)" sh tests/c-check.sh $(C_OUT)
@@ -131,13 +134,17 @@ C_QUICK = station inspect quickstart gauges inflow bands wear driver_check store
 c-quick: $(C_QUICK:%=$(C_OUT)/%)
 	CC="$(CC)" LIB="$(LIB)" C_LIBS="$(C_LIBS)" sh tests/quick.sh $(C_OUT)
 
-# Instructions of a store and a read under a list of rights, of question 2, of the longest calls and of the object's, by callgrind.
-.PHONY: rights-cost question-cost wait-cost object-cost
+# Instructions of a store and a read under a list of rights, of question 2, of a commit, of the longest calls and of the object's, by callgrind.
+.PHONY: rights-cost question-cost wait-cost commit-cost object-cost
 rights-cost: $(C_OUT)/rights_cost
 	sh tests/costs/rights-cost.sh $(C_OUT)
 
 question-cost: $(C_OUT)/question_cost
-	sh tests/costs/question-cost.sh $(C_OUT)
+	@if command -v valgrind > /dev/null; then sh tests/costs/question-cost.sh $(C_OUT) $(if $(filter $(C_OUT)/libkagutin.a,$(LIB)),--c-file); \
+	else echo "skipped question 2: valgrind is not installed"; fi
+
+commit-cost: $(C_OUT)/commit_cost
+	@if command -v valgrind > /dev/null; then sh tests/costs/commit-cost.sh $(C_OUT); else echo "skipped a commit's cost: valgrind is not installed"; fi
 
 wait-cost: $(C_OUT)/wait_cost
 	@if command -v valgrind > /dev/null; then sh tests/costs/wait-cost.sh $(C_OUT); else echo "skipped the longest waits: valgrind is not installed"; fi
@@ -147,7 +154,7 @@ object-cost: $(C_OUT)/object_cost
 
 # Their bounds are those of the C file.
 ifeq ($(LIB),$(C_OUT)/libkagutin.a)
-c-check: wait-cost object-cost
+c-check: wait-cost commit-cost object-cost
 endif
 
 # A process killed at random instants, long.

@@ -8,7 +8,8 @@ from forms import (BOOL, U32, U64, Address, Aggregate, Array, Binary, Bool, Cast
 SIGNS = {'Add': '+', 'Sub': '-', 'Mul': '*', 'Div': '/', 'Rem': '%', 'And': '&', 'Or': '|', 'Xor': '^', 'Shl': '<<', 'Shr': '>>',
          'Eq': '==', 'Ne': '!=', 'Lt': '<', 'Le': '<='}
 COMPARISONS = ('Eq', 'Ne', 'Lt', 'Le')
-SAME_BITS = {'SignedAdd': 'Add', 'SignedSub': 'Sub', 'SignedMul': 'Mul'}     # what leaves the range of naturals wraps round
+# what leaves the range of naturals wraps round
+SAME_BITS = {'SignedAdd': 'Add', 'SignedSub': 'Sub', 'SignedMul': 'Mul', 'WrapAdd': 'Add', 'WrapSub': 'Sub'}
 SIGNED_HELPERS = {'SignedDiv': 'divide_signed', 'SignedRem': 'remainder_signed', 'SignedShr': 'shift_signed'}
 OF_BOOLS = ('And', 'Or', 'Xor', 'Eq', 'Ne')
 COUNTS = {'CountOnes': 'count_ones', 'TrailingZeros': 'trailing_zeros', 'LeadingZeros': 'leading_zeros'}

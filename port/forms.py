@@ -134,7 +134,8 @@ class Cast:
 
 @dataclass(frozen=True)
 class Binary:
-    """`Add` and so on are of natural numbers and proved to stay in range; `SignedAdd` and so on read the bits as signed numbers."""
+    """`Add` and so on are of natural numbers and proved to stay in range; `SignedAdd` and so on read the bits as signed numbers; `WrapAdd` and
+    `WrapSub`, no forms of the prover either, are modulo 2^64 (wrap.py)."""
     op: str
     left: object
     right: object

@@ -22,6 +22,7 @@ from inline import inline
 from pointers import infer_pointers
 from reader import Program
 from words import join_words
+from wrap import wrap
 
 HEAD = '''/*
  * Kagutin as one C99 file, made by port/generate.py from the proved program.
@@ -81,7 +82,7 @@ class Generator:
             return
         infer_pointers(function)
         if not self.options.no_passes:
-            for step in (simplify, fold, simplify, fold):
+            for step in (simplify, fold, simplify, fold, wrap, fold):
                 step(function)
             inline(self.program, function, self.prepare)
             for step in (fold, join_words, fold, join_words):

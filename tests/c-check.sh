@@ -312,7 +312,8 @@ if command -v valgrind > /dev/null; then
     gives 0 "inspect under memcheck" $memcheck "$out/inspect" "$tmp/kept.img"
     gives 0 "quick start under memcheck" $memcheck "$out/quickstart" "$tmp/memcheck.img"
     gives 0 "store under memcheck" $memcheck "$out/store_check" 499 30
-    gives 0 "cost of question 2" sh tests/costs/question-cost.sh "$out"
+    # shellcheck disable=SC2046 # no word where the library is the archive
+    gives 0 "cost of question 2" sh tests/costs/question-cost.sh "$out" $([ "$lib" != "$out/libkagutin.a" ] || echo --c-file)
 else
     echo "skipped memcheck and cost: valgrind is not installed"
 fi

@@ -52,4 +52,7 @@ FAULTS = [
     ('sources.py', "function.names[1:function.params + 1] = names", "function.names[1:function.params + 1] = names[::-1]", 'dist/kagutin_inflow.c'),
     ('c_functions.py', "parts.append(f'.{n} = ({self.types.c(u)})r.{n}')", "parts.append(f'.{n} = ({self.types.c(u)})r.code')", 'dist/kagutin_hours.c'),
     ('c_functions.py', "args += [f'{n}.ptr', f'{n}.len']", "args += [f'{n}.ptr', f'{n}.len - 1u']", 'dist/kagutin_hours.c'),
+    # branches that give one number
+    ('wrap.py', "wrapping(value.left), wrapping(value.right))", "wrapping(value.right), wrapping(value.left))", 'dist/kagutin.c'),
+    ('wrap.py', "'Add': 'WrapAdd', 'Sub': 'WrapSub'}", "'Add': 'WrapSub', 'Sub': 'WrapAdd'}", 'dist/kagutin.c'),
 ]

@@ -1,2 +1,4 @@
 pub mod OrderTests
 pub mod ModeLaws
+pub mod RecordLaws
+pub mod AskedLaws

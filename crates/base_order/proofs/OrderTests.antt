@@ -138,42 +138,23 @@ module _ (st : State) where
         round-facts st (sym r),
       ))
 
--- no position passes 64 bits
-pub positions-fit : (st x : State) → st ≡ x → GroupsInOrder x → (7 * st .start < 2 ^ 64) × (7 * st .next + st .filled < 2 ^ 64)
-positions-fit st x e g =
-    rw e (omega (arith, g .start-most), omega (arith, g .start-most, g .next-most, g .groups-most, g .filled-most))
-
 -- ---- a writer, and the writers one after the other
 
 pub writer-refused : (st : State) (r : Writer) → (WriterInOrder st r → ⊥) → false ≡ writerInOrder st r
 writer-refused st r h = refuted (writerInOrder st r) (λ e. h (writer-order st r e))
 
--- a mode that is not that of a writer that logs: that of one that holds a block, or none
-pub other-mode : (st : State) (r : Writer) → r .mode ≢ 3 → r .home < st .homes → ltb (r .mode) 3 ≡ writerInOrder st r
-other-mode st r n h = go (ltb (r .mode) 3) refl
-  where
-    go : (t : Bool) → ltb (r .mode) 3 ≡ t → t ≡ writerInOrder st r
-    go true e = let l = ltb-true (r .mode) 3 e in sym (order-writer st r (record { mode = omega arith; home = λ _. h; logged = λ k. omega arith }))
-    go false e = let l = ltb-false (r .mode) 3 e in writer-refused st r (λ o. n (omega (arith, o .mode)))
+-- of a writer that holds a block and has logged nothing only the home is asked
+pub holding-held : (st : State) (r : Writer) → r .mode ≡ 2 → r .home < st .homes → true ≡ writerInOrder st r
+holding-held st r m h = sym (order-writer st r (record { mode = omega arith; home = λ _. h; logged = λ k. omega arith }))
 
 module _ (s : List ℕ) (st : State) (w : ℕ) where
   pub record-refused : false ≡ writerInOrder st (writerOf s w) → false ≡ writerAtInOrder s st w
   unfolding writerAtInOrder
   record-refused h = rw (← h)
 
-  pub open-held : true ≡ writerInOrder st (writerOf s w) → true ≡ isOpen (writerOf s w) → true ≡ writerAtInOrder s st w
-  unfolding writerAtInOrder promiseInOrder
-  open-held h k = rw (← h, ← k)
-
-  pub idle-held : true ≡ writerInOrder st (writerOf s w) → false ≡ isOpen (writerOf s w) → (b : Bool) → b ≡ lib.Dec.eqb (promiseOf s w) 0
-      → b ≡ writerAtInOrder s st w
-  unfolding writerAtInOrder promiseInOrder
-  idle-held h k b e = rw (← h, ← k, ← e)
-
-  -- nothing is promised
-  pub record-held : (b : Bool) → b ≡ writerInOrder st (writerOf s w) → promiseOf s w ≡ 0 → b ≡ writerAtInOrder s st w
-  unfolding writerAtInOrder promiseInOrder
-  record-held b e z = rw (z, or-true, and-true, ← e)
+  pub record-held : true ≡ writerInOrder st (writerOf s w) → true ≡ promiseInOrder (writerOf s w) (promiseOf s w) → true ≡ writerAtInOrder s st w
+  unfolding writerAtInOrder
+  record-held h k = rw (← h, ← k)
 
 module _ (s : List ℕ) (st : State) where
   pub writers-none : true ≡ writersInOrder s st 0
@@ -212,6 +193,10 @@ module _ (s : List ℕ) (st : State) (groups homes : ℕ) (e : st ≡ stateOf s)
   pub too-many : places st < promised s 8 → false ≡ inOrder s groups homes
   unfolding inOrder
   too-many h = rw (← e, lt-leb (promised s 8) (places st) h, and-false)
+
+  pub writers-not : false ≡ writersInOrder s st 8 → false ≡ inOrder s groups homes
+  unfolding inOrder
+  writers-not h = rw (← e, ← h, and-false)
 
   pub by-writers : st .groups ≡ groups → st .homes ≡ homes → true ≡ numbersInOrder st → promised s 8 ≤ places st
       → writersInOrder s st 8 ≡ inOrder s groups homes
@@ -331,22 +316,6 @@ module _ (s : List ℕ) (low whole all end mark : ℕ) (l : Live (stateOf s) low
             },
         λ t. let z = leb-false y (low + all) t in bounds-refused (stateOf s) (λ p. omega (arith, above, p .last-closing)),
       )
-
--- ---- the whole answer
-
-abbrev Answer : ℕ → List ℕ → ℕ → ℕ → Type 0
-Answer r s groups homes = r ≡ 0 → true ≡ inOrder s groups homes
-
-module _ (s : List ℕ) (groups homes : ℕ) where
-  pub answer-not : Answer 2 s groups homes
-  answer-not z = absurd (omega arith)
-
-  -- with no round and no promise the writers tell
-  pub quick-records : (st : State) → Agrees (stateOf s) groups homes → BoundsInOrder (stateOf s) → stateOf s .round ≡ 0 → st ≡ stateOf s
-      → promised s 8 ≡ 0 → writersInOrder s st 8 ≡ inOrder s groups homes
-  quick-records st a b z es p =
-      by-writers s st groups homes es (ap (λ (y : State). y .groups) es ∙ a .groups-same) (ap (λ (y : State). y .homes) es ∙ a .homes-same)
-      (rw es (numbers-held (stateOf s) (a .in-order) b (round-none (stateOf s) z))) (omega (arith, p))
 
 -- ---- the record of a writer that has logged entries
 

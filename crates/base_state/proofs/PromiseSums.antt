@@ -8,7 +8,6 @@ use native.Mathlib.Decide.{decLt}
 use native.Mathlib.Numerals.{add-one}
 use native.Mathlib.Omega.{arith}
 use lib.Dec.{leb, ltb, eqb}
-use lib.Bits.{bitOr, or-add-and, and-le-l, and-le-r}
 use borrow.Author.Tests.{le-leb, lt-leb, lt-ltb, le-ltb, eq-eqb, ne-eqb}
 use Rattle.model.specs.declared.State.{State}
 use Rattle.model.specs.Bytes.{number}
@@ -41,13 +40,6 @@ sum-none s = refl
 pub sum-turn : (s : List ℕ) (w sum n : ℕ) → sum ≡ promised s w → n ≡ promiseOf s w → sum + n ≡ promised s (w + 1)
 unfolding promised
 sum-turn s w sum n e f = rw (add-one w, e, f)
-
--- three words joined are zero
-none-of-two : (a b : ℕ) → bitOr a b ≡ 0 → (a ≡ 0) × (b ≡ 0)
-none-of-two a b e = (omega (arith, or-add-and a b, and-le-r a b), omega (arith, or-add-and a b, and-le-l a b))
-
-pub none-of-three : (a b c : ℕ) → bitOr (bitOr a b) c ≡ 0 → (a ≡ 0) × (b ≡ 0) × (c ≡ 0)
-none-of-three a b c e = let f = none-of-two (bitOr a b) c e in let g = none-of-two a b (f .0) in (g .0, g .1, f .1)
 
 -- promises that are zero as two words
 module _ (s : List ℕ) where

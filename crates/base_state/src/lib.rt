@@ -33,7 +33,6 @@ pub use listed::set_list_sign;
 pub use promises::keeps_promises;
 pub use promises::may_promise;
 pub use promises::none_promised;
-pub use promises::nothing_pending;
 pub use promises::places;
 pub use promises::promise;
 pub use promises::promise_left;

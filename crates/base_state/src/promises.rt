@@ -1,12 +1,10 @@
 // The places promised to the writers, two bytes each in the state strip, and the places that the log has.
 use crate::fields::next_position;
-use crate::fields::round;
 use model::State;
 ghost use mathlib.Core.Path.{_≡_};
 ghost use mathlib.Core.Bool.{true};
 ghost use Prim.Native.Nat.{ℕ, _^_, _<_};
 ghost use lib.ListN.{length};
-ghost use Rattle.model.specs.Bytes.{number};
 ghost use Rattle.model.specs.State.{stateOf, promiseOf, setPromise, promised, places, freePlaces, promiseLeft};
 ghost use Rattle.model.specs.Questions.{roomFor, mayPromise, keepsPromises};
 ghost use Rattle.base_state.specs.Order.{GroupsInOrder};
@@ -48,29 +46,6 @@ pub fn none_promised(s: &[u8]) -> bool
         return false;
     }
     base_codec::number(s, 80, 8) == 0
-}
-
-// The promises of the first four writers as one word, and those of the others.
-fn first_promises(s: &[u8]) -> u64
-    requires { ⌜ length (now s) ≡ 1024 ⌝ }
-    ensures { λ r. ⌜ r ≡ number 8 (now (s .entry)) 72 ⌝ }
-{
-    base_codec::number(s, 72, 8)
-}
-
-fn later_promises(s: &[u8]) -> u64
-    requires { ⌜ length (now s) ≡ 1024 ⌝ }
-    ensures { λ r. ⌜ r ≡ number 8 (now (s .entry)) 80 ⌝ }
-{
-    base_codec::number(s, 80, 8)
-}
-
-// Whether no round is under way and nothing is promised: three words joined are zero.
-pub fn nothing_pending(s: &[u8]) -> bool
-    requires { ⌜ length (now s) ≡ 1024 ⌝ }
-    ensures { λ b. ⌜ (b ≡ true → (stateOf (now (s .entry)) .round ≡ 0) × ((w : ℕ) → w < 8 → promiseOf (now (s .entry)) w ≡ 0)) ⌝ }
-{
-    round(s) | first_promises(s) | later_promises(s) == 0
 }
 
 // How many places are promised to the eight writers together, one after the other.

@@ -62,9 +62,6 @@ pub fn state_answer(log: &[u8], area: &[u8], state: &[u8]) -> u64
     }
     let groups = base_areas::log_groups(log.len());
     let homes = base_areas::data_homes(area.len());
-    if base_order::quick_answer(state, groups, homes) == 0 {
-        return 0;
-    }
     if !base_order::whole_in_order(state, groups, homes) {
         return 2;
     }
@@ -83,9 +80,6 @@ pub fn block_answer(log: &[u8], area: &[u8], state: &[u8], block: &[u8]) -> u64
     }
     let groups = base_areas::log_groups(log.len());
     let homes = base_areas::data_homes(area.len());
-    if base_order::quick_answer(state, groups, homes) == 0 {
-        return 0;
-    }
     if !base_order::whole_in_order(state, groups, homes) {
         return 2;
     }

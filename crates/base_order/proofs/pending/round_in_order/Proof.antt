@@ -2,8 +2,8 @@
 use borrow.Author.Needs.{needs}
 use native.Mathlib.Omega.{arith}
 use Rattle.base_order.proofs.OrderTests.{round-none, round-low, round-last}
-use Rattle.base_order.proofs.whole.round_in_order.Statement.{statement}
-use Rattle.base_order.proofs.whole.round_in_order.Tie as tie
+use Rattle.base_order.proofs.pending.round_in_order.Statement.{statement}
+use Rattle.base_order.proofs.pending.round_in_order.Tie as tie
 
 returns : tie.Need-returns
 returns c = round-none _ (c .if1 .taken)
