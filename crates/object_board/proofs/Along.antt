@@ -288,12 +288,13 @@ module _ (l : Grain) (G D : ℕ) (z : Sizes G D) where
             ∙ ap (λ (i : Grain). headedAfter i (headedBefore w c) (nextOf (ends w c)) (recordsOf (ends w c))) q ∙ m .headed
             ∙ ap (λ (y : List ℕ). stateOf y .fenced / 7) (sym (t .state)) in
             (subst (λ (i : ℕ). Due l G (ends w c .log) (nextOf (ends w c)) i (waitingAfter l [] (w .pending)) (recordsOf (ends w c))) (sym h) (m .due), (λ y. x), omega (arith, x, headed-next G D v (way-running G D z v (follow (a .s) w (call c)) way′ (t .ready))))
-        by-grain blocks q =
-            (subst (λ (i : Grain). Due i G (ends w c .log) (nextOf (ends w c)) (b .control .headed) (waitingAfter i [] (w .pending)) (recordsOf (ends w c))) (sym q)
-            (subst (λ (x : List Motion). Due blocks G (ends w c .log) (nextOf (ends w c)) (b .control .headed) x (recordsOf (ends w c))) (sym (waiting-blocks (w .pending)))
-            (blocks-due G (nextOf (ends w c)) (b .control .headed) (ends w c .log) (recordsOf (ends w c)))),
-            (λ y. absurd (grain-not (sym q ∙ y))),
-            omega (arith, low, next-v, ap (λ (i : Grain). headedAfter i (b .control .headed) (nextOf (ends w c)) (recordsOf (ends w c))) q, headed-blocks (b .control .headed) (nextOf (ends w c)) (recordsOf (ends w c))))
+        by-grain blocks q = (
+          subst (λ (i : Grain). Due i G (ends w c .log) (nextOf (ends w c)) (b .control .headed) (waitingAfter i [] (w .pending)) (recordsOf (ends w c))) (sym q)
+              (subst (λ (x : List Motion). Due blocks G (ends w c .log) (nextOf (ends w c)) (b .control .headed) x (recordsOf (ends w c))) (sym (waiting-blocks (w .pending)))
+              (blocks-due G (nextOf (ends w c)) (b .control .headed) (ends w c .log) (recordsOf (ends w c)))),
+          (λ y. absurd (grain-not (sym q ∙ y))),
+          omega (arith, low, next-v, ap (λ (i : Grain). headedAfter i (b .control .headed) (nextOf (ends w c)) (recordsOf (ends w c))) q, headed-blocks (b .control .headed) (nextOf (ends w c)) (recordsOf (ends w c))),
+        )
 
         front : part (b′ .memory .batch) 0 (b′ .control .size) ≡ take (o .size) (o .batch)
         front = ap (λ (x : List ℕ). part x 0 (b′ .control .size)) batch ∙ ap (λ (x : ℕ). part (o .batch) 0 x) (k .size) ∙ front-is (o .size) (o .batch)

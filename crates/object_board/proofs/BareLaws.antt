@@ -37,7 +37,6 @@ run-within fs (c ∷ cs) = go (allSurvive fs (c .entries)) (run-within fs cs)
     go true h = omega arith
     go false h = omega arith
 
-
 ticket-owed : (mark ticket : ℕ) (owed : Bool) → (ticket ≡ 0 → owed ≡ true) → ticket ≤ mark → (owed || (leb 1 ticket && leb ticket mark)) ≡ true
 ticket-owed mark zero owed h l = rw (h refl)
 ticket-owed mark (suc n) true h l = refl

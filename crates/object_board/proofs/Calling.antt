@@ -336,15 +336,19 @@ module _ (l : Grain) (G D : ℕ) (z : Sizes G D) (b : Board) (a : Along l G D z 
 
     module _ (x : Cursors c (m .control) 0 0) (y : Stays c (m .control)) where
       on-stage : (n : ℕ) → MovesOn m c n (c .condition) pass → Kind (m .control) → (n ≡ 6 → ⊥) → (n ≡ 21 → ⊥) → (n ≡ 0 → ⊥) → Result
-      on-stage n o d a₁ a₂ a₃ =
-          (still-follows none-made still x y d (λ q. absurd (a₁ (sym (o .stage-is) ∙ q))) (λ q. a₂ (sym (o .stage-is) ∙ q)) (quiet-pass b′ (k .turn ∙ o .turn))
-          (λ p q. a₃ (sym (o .stage-is) ∙ q)), passing (o .turn))
+      on-stage n o d a₁ a₂ a₃ = (
+        still-follows none-made still x y d (λ q. absurd (a₁ (sym (o .stage-is) ∙ q))) (λ q. a₂ (sym (o .stage-is) ∙ q)) (quiet-pass b′ (k .turn ∙ o .turn))
+            (λ p q. a₃ (sym (o .stage-is) ∙ q)),
+        passing (o .turn),
+      )
 
       at-rest : (code figure i : ℕ) → MovesOn m c 0 i (done code figure) → i ≡ 2 → Tells b′ → Result
-      at-rest code figure i o j t =
-          (still-follows none-made still x y (idle (o .stage-is) (o .condition-is ∙ j)) (λ q. absurd (omega (arith, o .stage-is, q))) (λ q. omega (arith, o .stage-is, q))
-          (quiet-done b′ code figure (k .turn ∙ o .turn))
-          (λ p q. done-over code figure (subst (λ (i : Turn). isOver i ≡ false) (o .turn) p)), λ h. t)
+      at-rest code figure i o j t = (
+        still-follows none-made still x y (idle (o .stage-is) (o .condition-is ∙ j)) (λ q. absurd (omega (arith, o .stage-is, q))) (λ q. omega (arith, o .stage-is, q))
+            (quiet-done b′ code figure (k .turn ∙ o .turn))
+            (λ p q. done-over code figure (subst (λ (i : Turn). isOver i ≡ false) (o .turn) p)),
+        λ h. t,
+      )
 
     book-kept : b′ .book ≡ w .book
     unfolding fedBy
@@ -533,9 +537,11 @@ module _ (l : Grain) (G D : ℕ) (z : Sizes G D) (b : Board) (a : Along l G D z 
 
     -- the operation is over
     resting : (code figure : ℕ) → SameCursor c (m .control) → Stays c (m .control) → made b .size ≡ 0 → MovesOn m c 0 (c .condition) (done code figure) → Tells b′ → Result
-    resting code figure x y r o t =
-        (ways .same x y r (idle (o .stage-is) (o .condition-is ∙ rest-condition (f .kind) low)) (λ q. omega (arith, o .stage-is, q)) (λ q. omega (arith, o .stage-is, q))
-        (quiet-done b′ code figure (k .turn ∙ o .turn)) (λ p q. done-over code figure (subst (λ (i : Turn). isOver i ≡ false) (o .turn) p)), λ h. t)
+    resting code figure x y r o t = (
+      ways .same x y r (idle (o .stage-is) (o .condition-is ∙ rest-condition (f .kind) low)) (λ q. omega (arith, o .stage-is, q)) (λ q. omega (arith, o .stage-is, q))
+          (quiet-done b′ code figure (k .turn ∙ o .turn)) (λ p q. done-over code figure (subst (λ (i : Turn). isOver i ≡ false) (o .turn) p)),
+      λ h. t,
+    )
 
     -- it goes on at another stage with nothing new to write
     passing-on : (i : ℕ) → SameCursor c (m .control) → Stays c (m .control) → made b .size ≡ 0 → MovesOn m c i (c .condition) pass → Kind (m .control) → (i ≡ 6 → ⊥) → (i ≡ 21 → ⊥)
@@ -570,9 +576,11 @@ module _ (l : Grain) (G D : ℕ) (z : Sizes G D) (b : Board) (a : Along l G D z 
         o = batch-of m c (c .at) (machine.headedAt c st) (c .step) (getD after (c .stage) 0) (made b .figure) (made b .size) pass q
 
         going : Kind (m .control) → (getD after (c .stage) 0 ≡ 6 → c .stage ≡ 5) → (getD after (c .stage) 0 ≡ 21 → ⊥) → (getD after (c .stage) 0 ≡ 0 → ⊥) → Result
-        going d a₁ a₂ a₃ =
-            (ways .new (v .0) (v .1) x d (λ g. a₁ (sym (o .stage-is) ∙ g)) (λ g. a₂ (sym (o .stage-is) ∙ g)) (λ g. a₃ (sym (o .stage-is) ∙ g)) (quiet-pass b′ (k .turn ∙ o .turn))
-            (λ p g. a₃ (sym (o .stage-is) ∙ g)), passing (o .turn))
+        going d a₁ a₂ a₃ = (
+          ways .new (v .0) (v .1) x d (λ g. a₁ (sym (o .stage-is) ∙ g)) (λ g. a₂ (sym (o .stage-is) ∙ g)) (λ g. a₃ (sym (o .stage-is) ∙ g)) (quiet-pass b′ (k .turn ∙ o .turn))
+              (λ p g. a₃ (sym (o .stage-is) ∙ g)),
+          passing (o .turn),
+        )
 
         go : Kind c → Result
         go (idle h i) = absurd (n h)

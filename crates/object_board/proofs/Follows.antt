@@ -24,7 +24,7 @@ use Rattle.model_laws.proofs.bytes.LayoutLaws.{groups-in, homes-in}
 use Rattle.theorems.proofs.invariant.Invariant.{Sizes, Running}
 use Rattle.theorems.proofs.steps.Rows.{Row, rowOf, ends-row}
 use Rattle.call_ask.specs.Lent.{lentAll}
-use Rattle.object.specs.Medium.{Grain, Medium, writes} 
+use Rattle.object.specs.Medium.{Grain, Medium, writes}
 use Rattle.object.specs.Medium as medium
 use Rattle.object.specs.Order.{Motion, put, wait, motions, moves, moved}
 use Rattle.object.specs.Runner.{Carried}
@@ -41,7 +41,7 @@ use Rattle.object_machine.specs.Moves as machine
 use Rattle.object_machine.specs.Next.{Lent, given, makes}
 use Rattle.object_board.specs.Board.{Board, inHand, pieceOf, isOver, loadsLog, loadsArea, callOf, fedBy, callFor, made, madeCall, next, withMedium, AllOwed, Tells}
 use Rattle.object_board.proofs.HandLaws.{moved-append, hands-some}
-use Rattle.object_board.proofs.MadeLaws.{SameEnd, Still, Made, unmade, made-by} 
+use Rattle.object_board.proofs.MadeLaws.{SameEnd, Still, Made, unmade, made-by}
 use Rattle.object_board.proofs.MadeLaws as makings
 use Rattle.object_board.proofs.StepLaws.{front-few, front-whole}
 use Rattle.object_board.proofs.Ways.{Way, way-answers, way-running, all-owed}

@@ -288,12 +288,14 @@ module _ (l : Grain) (G D : ℕ) (z : Sizes G D) where
   breaks-good b g o error n =
       let b₁ : Board = withMedium b (attempted b) (b .memory) (b .book) in
       let k = fails-next b₁ error in
-      let c = failed-is (b .control) (suc error) in
-      (behind
-      (record {
-        under = under-like l G D z b₁ (next b₁ (suc error)) (k .homes) (k .book) (k .medium) (attempted-under b g o);
-        kept = kept-like l G D z b (next b₁ (suc error)) (k .memory) (ap (λ (i : Control). i .landing) (k .control) ∙ c .2) (kept l G D z b g);
-        shut = inr (ap (λ (i : Control). i .condition) (k .control) ∙ c .0);
-        left = λ q. absurd (q (ap (λ (i : Control). i .stage) (k .control) ∙ c .1));
-        waiting = rests (ap (λ (i : Control). i .stage) (k .control) ∙ c .1) (ap isOver (k .turn) ∙ over-done 65 (suc error));
-      }), (k .told, ap (λ (i : Control). i .condition) (k .control) ∙ c .0))
+      let c = failed-is (b .control) (suc error) in (
+        behind
+            (record {
+              under = under-like l G D z b₁ (next b₁ (suc error)) (k .homes) (k .book) (k .medium) (attempted-under b g o);
+              kept = kept-like l G D z b (next b₁ (suc error)) (k .memory) (ap (λ (i : Control). i .landing) (k .control) ∙ c .2) (kept l G D z b g);
+              shut = inr (ap (λ (i : Control). i .condition) (k .control) ∙ c .0);
+              left = λ q. absurd (q (ap (λ (i : Control). i .stage) (k .control) ∙ c .1));
+              waiting = rests (ap (λ (i : Control). i .stage) (k .control) ∙ c .1) (ap isOver (k .turn) ∙ over-done 65 (suc error));
+            }),
+        (k .told, ap (λ (i : Control). i .condition) (k .control) ∙ c .0),
+      )

@@ -120,15 +120,17 @@ module _ (l : Grain) (G D : ℕ) (z : Sizes G D) where
       let p = passed-by (aheadOf b) (x .1) (omega (arith, e)) in
       let v = control-of (movesTo (aheadOf b)) (withStage (b .control) 20) (load 0 (length (b .memory .log))) (moves-log (aheadOf b) e) in
       let y = landing-of (b .control) (next (aheadOf b) 0 .control) 20 (c .control ∙ v .0) in
-      subst (λ (i : Board). Good l G D z i × (isOver (i .told) ≡ false)) (sym (load-none l G D z b (q .1) (q .2) chosen n))
-      (behind
-      (record {
-        under = under-like l G D z b (next (aheadOf b) 0) (p .homes) (p .book) (p .medium ∙ none-moved (b .medium) (dueOf b) (q .0)) (k .under);
-        kept = record { sized = sized-by (aheadOf b) (next (aheadOf b) 0) p (k .kept .sized); landing = y .0 ∙ k .kept .landing };
-        shut = inl (y .3 ∙ x .0);
-        left = λ h. (y .3 ∙ x .0, omega (arith, y .1, y .2, x .1));
-        waiting = loads (length (b .memory .log)) (y .5) (y .4 ∙ o) (c .turn ∙ v .1);
-      }), ap isOver (c .told ∙ v .1) ∙ load-is 0 (length (b .memory .log)))
+      subst (λ (i : Board). Good l G D z i × (isOver (i .told) ≡ false)) (sym (load-none l G D z b (q .1) (q .2) chosen n)) (
+        behind
+            (record {
+              under = under-like l G D z b (next (aheadOf b) 0) (p .homes) (p .book) (p .medium ∙ none-moved (b .medium) (dueOf b) (q .0)) (k .under);
+              kept = record { sized = sized-by (aheadOf b) (next (aheadOf b) 0) p (k .kept .sized); landing = y .0 ∙ k .kept .landing };
+              shut = inl (y .3 ∙ x .0);
+              left = λ h. (y .3 ∙ x .0, omega (arith, y .1, y .2, x .1));
+              waiting = loads (length (b .memory .log)) (y .5) (y .4 ∙ o) (c .turn ∙ v .1);
+            }),
+        ap isOver (c .told ∙ v .1) ∙ load-is 0 (length (b .memory .log)),
+      )
 
   -- the log is loaded: a loss
   loads-log : (b : Board) (m : ℕ) → b .turn ≡ load 0 m → (chosen : ℕ → Bool) (n : ℕ) → happens l b (goes chosen) n ≡ next (lostBoard l b chosen n) 0
@@ -166,19 +168,21 @@ module _ (l : Grain) (G D : ℕ) (z : Sizes G D) where
         area = k .kept .sized .area;
         room = k .kept .sized .room;
       } in
-      subst (λ (j : Board). Good l G D z j × (isOver (j .told) ≡ false)) (sym (loads-log b m t chosen (x .commits)))
-      (loaded
-      (record {
-        under = lost-under l G D z b (next b₁ 0) chosen x (p .homes ∙ k .under .homes) (p .book) (p .medium);
-        kept = record { sized = sized-by b₁ (next b₁ 0) p s; landing = r .0 ∙ k .kept .landing };
-        ready = x .ready;
-        quiet = x .pending;
-        passed = x .passed;
-        condition = r .3 ∙ y .0;
-        stage = r .5;
-        op = r .4 ∙ o;
-        left = omega (arith, r .1, r .2, y .1);
-        turn = (length (b .memory .area), c .turn ∙ v .1);
-        log = p .log ∙ f;
-        whole = p .medium ∙ x .medium;
-      }), ap isOver (c .told ∙ v .1) ∙ load-is 1 (length (b .memory .area)))
+      subst (λ (j : Board). Good l G D z j × (isOver (j .told) ≡ false)) (sym (loads-log b m t chosen (x .commits))) (
+        loaded
+            (record {
+              under = lost-under l G D z b (next b₁ 0) chosen x (p .homes ∙ k .under .homes) (p .book) (p .medium);
+              kept = record { sized = sized-by b₁ (next b₁ 0) p s; landing = r .0 ∙ k .kept .landing };
+              ready = x .ready;
+              quiet = x .pending;
+              passed = x .passed;
+              condition = r .3 ∙ y .0;
+              stage = r .5;
+              op = r .4 ∙ o;
+              left = omega (arith, r .1, r .2, y .1);
+              turn = (length (b .memory .area), c .turn ∙ v .1);
+              log = p .log ∙ f;
+              whole = p .medium ∙ x .medium;
+            }),
+        ap isOver (c .told ∙ v .1) ∙ load-is 1 (length (b .memory .area)),
+      )

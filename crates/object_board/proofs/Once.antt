@@ -355,35 +355,35 @@ module _ (l : Grain) (G D : ℕ) (z : Sizes G D) (b : Board) (good : Good l G D 
   begins-good v n =
       once-good (beginsIn b v) (begin v)
       (λ f u.
-        let w : World = f .along .w in
-        let c = copies l G D z b f u in
-        let e = left-fields (w .newest) (beginCall (lentTo₀ w [] [] v 0)) (ends w (begin v)) (lent-alike .calls w (begin v)) in
-        let o = begins-as b w v (c .log) (c .area) (c .state) in
-        once-follows l G D z b f u (begin v) (begin-quick w v) (beginsIn b v) (ap (λ (x : Outcome). x .code) o ∙ e .0) (ap (λ (x : Outcome). x .figure) o ∙ e .1)
-        (ap (λ (x : Outcome). x .state) o ∙ e .2))
+      let w : World = f .along .w in
+      let c = copies l G D z b f u in
+      let e = left-fields (w .newest) (beginCall (lentTo₀ w [] [] v 0)) (ends w (begin v)) (lent-alike .calls w (begin v)) in
+      let o = begins-as b w v (c .log) (c .area) (c .state) in
+      once-follows l G D z b f u (begin v) (begin-quick w v) (beginsIn b v) (ap (λ (x : Outcome). x .code) o ∙ e .0) (ap (λ (x : Outcome). x .figure) o ∙ e .1)
+      (ap (λ (x : Outcome). x .state) o ∙ e .2))
 
   pub aborts-good : (v n : ℕ) → Good l G D z (happens l b (board.aborts v) n)
   unfolding happens
   aborts-good v n =
       once-good (abortsIn b v) (abort v)
       (λ f u.
-        let w : World = f .along .w in
-        let c = copies l G D z b f u in
-        let e = left-fields (w .newest) (abortCall (lentTo₀ w [] [] v 0)) (ends w (abort v)) (lent-alike .calls w (abort v)) in
-        let o = aborts-as b w v (c .log) (c .area) (c .state) in
-        once-follows l G D z b f u (abort v) (abort-quick w v) (abortsIn b v) (ap (λ (x : Outcome). x .code) o ∙ e .0) (ap (λ (x : Outcome). x .figure) o ∙ e .1)
-        (ap (λ (x : Outcome). x .state) o ∙ e .2))
+      let w : World = f .along .w in
+      let c = copies l G D z b f u in
+      let e = left-fields (w .newest) (abortCall (lentTo₀ w [] [] v 0)) (ends w (abort v)) (lent-alike .calls w (abort v)) in
+      let o = aborts-as b w v (c .log) (c .area) (c .state) in
+      once-follows l G D z b f u (abort v) (abort-quick w v) (abortsIn b v) (ap (λ (x : Outcome). x .code) o ∙ e .0) (ap (λ (x : Outcome). x .figure) o ∙ e .1)
+      (ap (λ (x : Outcome). x .state) o ∙ e .2))
 
   pub reads-good : (v home : ℕ) (block : List ℕ) (n : ℕ) → Good l G D z (happens l b (board.reads v home block) n)
   unfolding happens
   reads-good v home block n =
       once-good (readsIn b v home block) (read v home block)
       (λ f u.
-        let w : World = f .along .w in
-        let c = copies l G D z b f u in
-        let o = reads-as b w v home block (c .log) (c .area) (c .state) (c .newest) in
-        once-follows l G D z b f u (read v home block) (read-quick w v home block) (readsIn b v home block) (ap (λ (x : Outcome). x .code) o) (ap (λ (x : Outcome). x .figure) o)
-        (ap (λ (x : Outcome). x .state) o))
+      let w : World = f .along .w in
+      let c = copies l G D z b f u in
+      let o = reads-as b w v home block (c .log) (c .area) (c .state) (c .newest) in
+      once-follows l G D z b f u (read v home block) (read-quick w v home block) (readsIn b v home block) (ap (λ (x : Outcome). x .code) o) (ap (λ (x : Outcome). x .figure) o)
+      (ap (λ (x : Outcome). x .state) o))
 
   -- a done read gives the writer's own newest block, else the newest committed one
   pub reads-right : (v home : ℕ) (block : List ℕ) (n : ℕ) → happens l b (board.reads v home block) n .told .code ≡ 0

@@ -310,32 +310,33 @@ module _ (l : Grain) (G D : ℕ) (z : Sizes G D) (b : Board) (k : Loaded l G D z
         many = 0;
         medium = whole;
         carried = none-carried l G D z w (k .quiet) (k .passed);
-      } in
-      (behind
-      (record {
-        under = u;
-        kept =
-            record {
-              sized =
+      } in (
+        behind
+            (record {
+              under = u;
+              kept =
                   record {
-                    state = ap length (g .state ∙ end .state ∙ v .states) ∙ k .kept .sized .state;
-                    newest = ap length (g .newest ∙ end .newest ∙ v .newests) ∙ k .kept .sized .newest;
-                    log = ap length (g .log ∙ end .log ∙ v .log) ∙ i .opens .logSize;
-                    area = ap length (g .area ∙ end .area ∙ v .area) ∙ i .opens .areaSize;
-                    room = rw kept-size (k .kept .sized .room);
+                    sized =
+                        record {
+                          state = ap length (g .state ∙ end .state ∙ v .states) ∙ k .kept .sized .state;
+                          newest = ap length (g .newest ∙ end .newest ∙ v .newests) ∙ k .kept .sized .newest;
+                          log = ap length (g .log ∙ end .log ∙ v .log) ∙ i .opens .logSize;
+                          area = ap length (g .area ∙ end .area ∙ v .area) ∙ i .opens .areaSize;
+                          room = rw kept-size (k .kept .sized .room);
+                        };
+                    landing = ap (λ (j : Control). j .landing) (g .control) ∙ landing-kept (movesTo b₁) c 0 (done (made b₁ .code) figure) q ∙ k .kept .landing;
                   };
-              landing = ap (λ (j : Control). j .landing) (g .control) ∙ landing-kept (movesTo b₁) c 0 (done (made b₁ .code) figure) q ∙ k .kept .landing;
-            };
-        shut = inl (ap (λ (j : Control). j .condition) (g .control) ∙ o .condition-is ∙ k .condition);
-        left = λ h. absurd (h (ap (λ (j : Control). j .stage) (g .control) ∙ o .stage-is));
-        waiting = rests (ap (λ (j : Control). j .stage) (g .control) ∙ o .stage-is) (ap isOver (g .turn ∙ o .turn) ∙ over-done l G D z (made b₁ .code) figure);
-      }),
-      λ h.
-          record {
-            opened = λ p r. absurd (n (sym (ap (λ (j : Turn). j .code) (g .told ∙ o .turn) ∙ done-code (made b₁ .code) figure) ∙ r));
-            opening = λ p. inr (ap (λ (j : Turn). j .code) (g .told ∙ o .turn) ∙ done-code (made b₁ .code) figure ∙ ten answer);
-            synced = λ p. absurd (omega (arith, p, ap (λ (j : Control). j .op) (g .control) ∙ o .op ∙ k .op));
-          })
+              shut = inl (ap (λ (j : Control). j .condition) (g .control) ∙ o .condition-is ∙ k .condition);
+              left = λ h. absurd (h (ap (λ (j : Control). j .stage) (g .control) ∙ o .stage-is));
+              waiting = rests (ap (λ (j : Control). j .stage) (g .control) ∙ o .stage-is) (ap isOver (g .turn ∙ o .turn) ∙ over-done l G D z (made b₁ .code) figure);
+            }),
+        λ h.
+            record {
+              opened = λ p r. absurd (n (sym (ap (λ (j : Turn). j .code) (g .told ∙ o .turn) ∙ done-code (made b₁ .code) figure) ∙ r));
+              opening = λ p. inr (ap (λ (j : Turn). j .code) (g .told ∙ o .turn) ∙ done-code (made b₁ .code) figure ∙ ten answer);
+              synced = λ p. absurd (omega (arith, p, ap (λ (j : Control). j .op) (g .control) ∙ o .op ∙ k .op));
+            },
+      )
     where
       ten : (made b₁ .code ≡ 0) ⊎ (made b₁ .code ≡ 10) → made b₁ .code ≡ 10
       ten (inl e) = absurd (n e)
@@ -484,18 +485,19 @@ module _ (l : Grain) (G D : ℕ) (z : Sizes G D) (b : Board) (k : Loaded l G D z
 
     opened : Result
     unfolding areaBoard along
-    opened =
-        (follows
-        (quiet-follows l G D z b′ along (quiet-pass b′ (g .turn ∙ o .turn))
-        (subst (λ (i : Control). Facts l G D z i v (follow (k .under .s) w (call opens₀))) (sym (g .control))
-        (record {
-          kind = opening (o .stage-is) (o .op ∙ k .op) (o .condition-is ∙ k .condition);
-          fenced = λ h. absurd (omega (arith, h, o .stage-is));
-          area = λ h. area-is;
-        }))
-        (λ h. absurd (omega (arith, h, ap (λ (i : Control). i .stage) (g .control) ∙ o .stage-is)))
-        (λ p h. omega (arith, h, ap (λ (i : Control). i .stage) (g .control) ∙ o .stage-is))),
-        λ h. absurd (pass-under (subst (λ (i : Turn). isOver i ≡ true) (g .told ∙ o .turn) h)))
+    opened = (
+      follows
+          (quiet-follows l G D z b′ along (quiet-pass b′ (g .turn ∙ o .turn))
+          (subst (λ (i : Control). Facts l G D z i v (follow (k .under .s) w (call opens₀))) (sym (g .control))
+          (record {
+            kind = opening (o .stage-is) (o .op ∙ k .op) (o .condition-is ∙ k .condition);
+            fenced = λ h. absurd (omega (arith, h, o .stage-is));
+            area = λ h. area-is;
+          }))
+          (λ h. absurd (omega (arith, h, ap (λ (i : Control). i .stage) (g .control) ∙ o .stage-is)))
+          (λ p h. omega (arith, h, ap (λ (i : Control). i .stage) (g .control) ∙ o .stage-is))),
+      λ h. absurd (pass-under (subst (λ (i : Turn). isOver i ≡ true) (g .told ∙ o .turn) h)),
+    )
 
   calls : CalledTo (b₁ .control) (made b₁ .code) (made b₁ .figure) (made b₁ .size) (stateOf (made b₁ .state)) (movesTo b₁) → Result
   calls (over x r t q) = absurd (omega (arith, t, ap (λ (i : ℕ). getD after i 0) stage-is ∙ after-open))

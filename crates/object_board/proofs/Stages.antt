@@ -147,7 +147,6 @@ pub confirm-call : (c : Control) (st : State) (homes : ℕ) → c .stage ≡ 6 �
 unfolding chosen atStage callAt callInRound
 confirm-call c st homes e = rw e (same-both (underWay st) 6)
 
-
 -- numbers told apart
 pub sync-not : (n : ℕ) → syncStage n ≡ true → (n ≡ 0 → ⊥) × (n ≡ 1 → ⊥) × (n ≡ 19 → ⊥) × (n ≡ 20 → ⊥) × (n ≡ 21 → ⊥) × (n ≡ 22 → ⊥) × (n ≡ 25 → ⊥)
 unfolding syncStage

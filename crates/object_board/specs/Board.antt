@@ -254,6 +254,7 @@ goesOn l b chosen n =
     let m : Medium = carried l b chosen in
     next (withMedium b m (copied b m) (keeps (loadsLog (b .turn)) n (b .book))) 0
 
+-- [S-89]
 unfoldable pub happens : Grain → Board → Happening → ℕ → Board
 happens l b (asks stage writer home number block) n = askFor b stage writer home number block
 happens l b (begins writer) n = once b (beginsIn b writer) (begin writer)
@@ -354,7 +355,7 @@ boardOf {homes = homes} f b =
       book = book.empty;
     }
 
--- Demand 4: for every kind of medium, every G and D, every done format, every start and every list of operations, results and cuts
+-- Demand 4: for every kind of medium, every G and D, every done format, every start and every list of operations, results and cuts [S-89]
 abbrev pub Demand4 : Type 0
 Demand4 =
     (l : Grain) (groups homes : ℕ) (f : Formatting groups homes) (b : Board) → Started l groups homes b → (hs : List Happening) →
