@@ -43,6 +43,7 @@ GAUGES_ARCHIVE = target/staticlib/libgauges.a
 INFLOW_ARCHIVE = target/staticlib/libinflow.a
 ARCHIVES = $(ARCHIVE) $(GAUGES_ARCHIVE) $(INFLOW_ARCHIVE)
 RUNNER_ARCHIVE = target/staticlib/libobject_runner.a
+MACHINE_ARCHIVE = target/staticlib/libobject_machine.a
 
 .PHONY: all help run quick test test-library test-compared test-c compare play bench bench-docs reference library clean
 
@@ -69,7 +70,7 @@ define ARCHIVE_OF
 target/staticlib/lib$(1).a: crates.txt $$(shell find crates.txt $(addprefix crates/,$(shell scripts/library.sh --crates $(call crate_of,$(1)))) -name '*.rt' -o -name '*.antt')
 	@scripts/library.sh $(call crate_of,$(1)) $(1)
 endef
-$(foreach name,$(ARCHIVES:target/staticlib/lib%.a=%) object_runner,$(eval $(call ARCHIVE_OF,$(name))))
+$(foreach name,$(ARCHIVES:target/staticlib/lib%.a=%) object_runner object_machine,$(eval $(call ARCHIVE_OF,$(name))))
 
 run: station
 	$(C_OUT)/station --seed $(SEED) --cuts $(CUTS)
@@ -142,6 +143,13 @@ runner-compare: $(RUNNER_ARCHIVE)
 	@mkdir -p target/test
 	$(CC) $(C_FLAGS) tests/store/runner_check.c c/store/batch.c $(RUNNER_ARCHIVE) -o target/test/runner_check
 	target/test/runner_check
+
+# The C object beside the proved machine; not in test-compared, since the archive takes two more minutes of proving.
+.PHONY: machine-compare
+machine-compare: $(MACHINE_ARCHIVE)
+	@mkdir -p target/test
+	$(CC) $(C_FLAGS) tests/store/machine_check.c dist/kagutin_all.c $(MACHINE_ARCHIVE) -o target/test/machine_check
+	target/test/machine_check
 
 test-compared:
 	$(MAKE) --no-print-directory runner-compare
