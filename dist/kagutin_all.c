@@ -113,10 +113,6 @@ struct call_open__opening__Shape {
     uint64_t start;
 };
 
-struct array_u64_7 {
-    uint64_t at[7];
-};
-
 struct log_scan__commits__Progress {
     uint64_t end;
     uint64_t number;
@@ -131,6 +127,10 @@ struct slice_mut_u16 {
 struct log_scan__commits__Found {
     uint64_t end;
     uint64_t number;
+};
+
+struct array_u64_7 {
+    uint64_t at[7];
 };
 
 struct slice_mut_u64 {
@@ -178,6 +178,7 @@ struct array_u8_32 {
 struct log_replay__stepping__Reached {
     uint64_t home;
     uint64_t done;
+    uint64_t rest;
 };
 
 struct log_tables__steps__Made {
@@ -3013,22 +3014,6 @@ static inline uint64_t log_scan__commits__in_group(uint64_t left)
     return t3;
 }
 
-/* The words of a group's seven tags that are there, read in a row; `turn` is the group's. */
-static inline struct array_u64_7 log_scan__groups__tag_words(struct core_slice_u8 group, uint64_t turn)
-{
-    struct array_u64_7 t3;
-    uint64_t t4, t6;
-
-    memset(&t3, 0, sizeof t3);
-    t4 = 0u;
-    while (t4 < 7u) {
-        t6 = log_scan__groups__word_there(group, turn, t4);
-        t3.at[(size_t)t4] = t6;
-        t4 = t4 + 1u;
-    }
-    return t3;
-}
-
 /* Takes the entry at an offset, whose transaction's first entry is at the offset `first`. */
 static inline struct log_scan__commits__Progress log_gather__walking__join_entry(struct slice_mut_u16 cells,
         struct slice_mut_u16 heads, struct slice_mut_u16 links, uint64_t home, uint64_t first, uint64_t offset,
@@ -3046,6 +3031,26 @@ static inline struct log_scan__commits__Progress log_gather__walking__join_entry
     links.ptr[(size_t)offset] = heads.ptr[(size_t)t22];
     heads.ptr[(size_t)t22] = (uint16_t)(offset + 1u);
     return progress;
+}
+
+/* Takes the word of an entry that does not close its transaction, at index `index` of the log; `above` is the word of an entry
+   for the first home that there is not. */
+static inline struct log_scan__commits__Progress log_gather__walking__visit_plain(uint64_t word, uint64_t above, uint64_t base,
+        uint64_t index, struct slice_mut_u16 cells, struct slice_mut_u16 heads, struct slice_mut_u16 links,
+        struct log_scan__commits__Progress progress)
+{
+    uint64_t t9;
+    (void)base;
+
+    if (!((word & UINT64_C(0x1e0000000003ffd)) < above)) {
+        return progress;
+    }
+    t9 = (word >> 14u) & 8191u;
+    if (index < t9) {
+        return progress;
+    }
+    return log_gather__walking__join_entry(cells, heads, links, ((word >> 2u) & 4095u) + (4096u * ((word >> 53u) & 15u)),
+            index - t9, index, progress);
 }
 
 /* Whether a closing entry at a position is linked, by its distance back, to the last one, which ends at `end`, or where there is
@@ -3110,55 +3115,70 @@ static inline struct log_scan__commits__Progress log_gather__walking__join_closi
     return t12;
 }
 
-/* Takes what the word of a tag says at a position, unless the walk has stopped. */
-static inline struct log_scan__commits__Progress log_gather__walking__visit(uint64_t word, uint64_t position, uint64_t base,
-        uint64_t homes, struct slice_mut_u16 cells, struct slice_mut_u16 heads, struct slice_mut_u16 links,
+/* The same for the word of a closing entry. */
+static inline struct log_scan__commits__Progress log_gather__walking__visit_closing(uint64_t word, uint64_t above, uint64_t base,
+        uint64_t index, struct slice_mut_u16 cells, struct slice_mut_u16 heads, struct slice_mut_u16 links,
         struct log_scan__commits__Progress progress)
 {
-    struct model__Tag t16;
-    struct log_scan__commits__Progress t17;
+    uint64_t t9, t10;
 
-    if (progress.failed != 0u) {
+    if (!((word & UINT64_C(0x1e0000000003ffd)) < above)) {
         return progress;
     }
-    t16 = base_codec__tags__read_tag(word, position, base, homes);
-    if (t16.tag == 0u) {
-        t17 = progress;
-    } else if (t16.tag == 1u) {
-        t17 = log_gather__walking__join_entry(cells, heads, links, t16.u64_0, t16.u64_1 - base, position - base, progress);
-    } else {
-        t17 = log_gather__walking__join_closing(cells, heads, links, base, position, t16.u64_0, t16.u64_1 - base, t16.u64_2,
-                t16.u64_3, progress);
+    t9 = (word >> 14u) & 8191u;
+    if (index < t9) {
+        return progress;
     }
-    return t17;
+    t10 = (word >> 40u) & 8191u;
+    if (t10 == 0u) {
+        return progress;
+    }
+    return log_gather__walking__join_closing(cells, heads, links, base, base + index, ((word >> 2u) & 4095u)
+            + (4096u * ((word >> 53u) & 15u)), index - t9, (word >> 27u) & 8191u, t10, progress);
 }
 
-/* Takes the first `m` tags of a group, which says nothing where it is not the valid group with number `n` and turn `turn`. */
+/* Takes what the word of a tag says at index `index` of the log. */
+static inline struct log_scan__commits__Progress log_gather__walking__visit(uint64_t word, uint64_t above, uint64_t base,
+        uint64_t index, struct slice_mut_u16 cells, struct slice_mut_u16 heads, struct slice_mut_u16 links,
+        struct log_scan__commits__Progress progress)
+{
+    if ((word & UINT64_C(0xfc1ffffff8000003)) == 1u) {
+        return log_gather__walking__visit_plain(word, above, base, index, cells, heads, links, progress);
+    }
+    if ((word & UINT64_C(0xfc00000000000003)) == 3u) {
+        return log_gather__walking__visit_closing(word, above, base, index, cells, heads, links, progress);
+    }
+    return progress;
+}
+
+/* Takes the first `m` tags of a group, or those before the walk stops. The group says nothing where it is not the valid group
+   with number `n` and turn `turn`. */
 static inline struct log_scan__commits__Progress log_gather__walking__visit_group(struct core_slice_u8 group, uint64_t groups,
         uint64_t homes, uint64_t start, uint64_t n, uint64_t turn, uint64_t m, struct slice_mut_u16 cells,
         struct slice_mut_u16 heads, struct slice_mut_u16 links, struct log_scan__commits__Progress progress)
 {
-    struct array_u64_7 t12, t19;
-    uint64_t t13, t15, t16;
-    struct log_scan__commits__Progress t14;
+    uint64_t t12, t13, t14, t16, t21;
+    struct log_scan__commits__Progress t15;
     bool t17;
 
     t17 = log_scan__groups__group_valid(group, groups, start, n);
     if (!t17) {
         return progress;
     }
-    t19 = log_scan__groups__tag_words(group, turn);
-    t12 = t19;
+    t12 = ((1u | ((homes & 4095u) << 2u)) | ((uint64_t)0u << 14u)) | ((homes >> 12u) << 53u);
     t13 = 7u * start;
-    t14 = progress;
-    t15 = 7u * n;
+    t14 = (7u * n) - t13;
+    t15 = progress;
     t16 = 0u;
     while (t16 < m) {
-        t14 = log_gather__walking__visit(t12.at[(size_t)t16], t15, t13, homes, cells, heads, links, t14);
-        t15 = t15 + 1u;
+        t21 = log_scan__groups__word_there(group, turn, t16);
+        t15 = log_gather__walking__visit(t21, t12, t13, t14 + t16, cells, heads, links, t15);
+        if (t15.failed != 0u) {
+            return t15;
+        }
         t16 = t16 + 1u;
     }
-    return t14;
+    return t15;
 }
 
 /* Takes the `n` positions of the log from its start on, group by group, until the walk stops. */
@@ -3201,18 +3221,53 @@ static inline uint16_t log_gather__walking__closer_in(uint16_t cell)
     return t3;
 }
 
-/* Leaves in the first `n` cells, where all others are 0, only the closing entries, and no counts. */
+/* Leaves in a cell only a closing entry, where the cells before it hold no counts. */
+static inline void log_gather__walking__drop_one(struct slice_mut_u16 cells, uint64_t k)
+{
+    uint16_t t3;
+
+    t3 = log_gather__walking__closer_in(cells.ptr[(size_t)k]);
+    cells.ptr[(size_t)k] = t3;
+}
+
+/* The same for the eight cells from `k` on, in a row. */
+static inline void log_gather__walking__drop_eight(struct slice_mut_u16 cells, uint64_t k)
+{
+    log_gather__walking__drop_one(cells, k);
+    log_gather__walking__drop_one(cells, k + 1u);
+    log_gather__walking__drop_one(cells, k + 2u);
+    log_gather__walking__drop_one(cells, k + 3u);
+    log_gather__walking__drop_one(cells, k + 4u);
+    log_gather__walking__drop_one(cells, k + 5u);
+    log_gather__walking__drop_one(cells, k + 6u);
+    log_gather__walking__drop_one(cells, k + 7u);
+}
+
+/* The same for the cells from `from` to below `n`, where all others from there on are 0. */
+static inline void log_gather__walking__drop_rest(struct slice_mut_u16 cells, uint64_t from, uint64_t n)
+{
+    uint64_t t4;
+
+    t4 = from;
+    while (t4 < n) {
+        log_gather__walking__drop_one(cells, t4);
+        t4 = t4 + 1u;
+    }
+}
+
+/* Leaves in the first `n` cells, where all others are 0, only the closing entries, and no counts, eight at a time. */
 static inline void log_gather__walking__drop_counts(struct slice_mut_u16 cells, uint64_t n)
 {
-    uint64_t t3;
-    uint16_t t5;
+    uint64_t t3, t4;
 
     t3 = 0u;
-    while (t3 < n) {
-        t5 = log_gather__walking__closer_in(cells.ptr[(size_t)t3]);
-        cells.ptr[(size_t)t3] = t5;
-        t3 = t3 + 1u;
+    t4 = n;
+    while (8u <= t4) {
+        log_gather__walking__drop_eight(cells, t3);
+        t3 = t3 + 8u;
+        t4 = t4 - 8u;
     }
+    log_gather__walking__drop_rest(cells, t3, n);
 }
 
 /* Walks the `n` positions of the log from its start on with empty tables, and finds where the committed transactions end and how
@@ -3358,6 +3413,22 @@ static inline struct log_scan__commits__Found log_scan__commits__walk_with(struc
     return (struct log_scan__commits__Found){.end = t7.end, .number = t7.number};
 }
 
+/* The words of a group's seven tags that are there, read in a row; `turn` is the group's. */
+static inline struct array_u64_7 log_scan__groups__tag_words(struct core_slice_u8 group, uint64_t turn)
+{
+    struct array_u64_7 t3;
+    uint64_t t4, t6;
+
+    memset(&t3, 0, sizeof t3);
+    t4 = 0u;
+    while (t4 < 7u) {
+        t6 = log_scan__groups__word_there(group, turn, t4);
+        t3.at[(size_t)t4] = t6;
+        t4 = t4 + 1u;
+    }
+    return t3;
+}
+
 /* Takes what the word of a tag says at a position. */
 static inline void log_gather__gathering__visit(uint64_t word, uint64_t position, uint64_t base, uint64_t homes,
         struct slice_mut_u16 last, struct slice_mut_u16 heads, struct slice_mut_u16 links)
@@ -3472,24 +3543,18 @@ static inline uint64_t log_replay__places__slot_after(uint64_t slot, uint64_t n,
     return t6;
 }
 
-/* What tag `k` of a group says at a position of a log that starts at position `base` and has `homes` homes. */
-static inline struct model__Tag log_scan__groups__tag_in(struct core_slice_u8 group, uint64_t k, uint64_t position, uint64_t base,
-        uint64_t homes)
+/* The word of the tag at an offset, which says what the log does where there is an entry. */
+static inline uint64_t log_replay__places__word_from(struct core_slice_u8 log, uint64_t groups, uint64_t start, uint64_t slot,
+        uint64_t offset)
 {
-    return base_codec__tags__read_tag(core_load_8(group.ptr + (size_t)(8u + (8u * k))), position, base, homes);
-}
+    uint64_t t6, t8;
+    struct core_slice_u8 t16;
+    (void)start;
 
-/* What the log says at an offset where there is an entry. */
-static inline struct model__Tag log_replay__places__entry_from(struct core_slice_u8 log, uint64_t groups, uint64_t homes,
-        uint64_t start, uint64_t slot, uint64_t offset)
-{
-    uint64_t t7, t8, t10;
-
-    t7 = 7u * start;
-    t10 = log_replay__places__slot_after(slot, offset / 7u, groups);
-    t8 = 64u + (512u * t10);
-    return log_scan__groups__tag_in((struct core_slice_u8){log.ptr + (size_t)t8, (size_t)((t8 + 512u) - t8)}, offset % 7u, t7 + offset,
-            t7, homes);
+    t8 = log_replay__places__slot_after(slot, offset / 7u, groups);
+    t6 = 64u + (512u * t8);
+    t16 = (struct core_slice_u8){log.ptr + (size_t)t6, (size_t)((t6 + 512u) - t6)};
+    return core_load_8(t16.ptr + (size_t)(8u + (8u * (offset % 7u))));
 }
 
 /* Takes an entry as the newest of its home, the one with index `k` in its word, if its transaction closes later than that of the
@@ -3525,16 +3590,10 @@ static inline void log_replay__words__take_at(struct core_slice_u8 log, struct s
         uint64_t offset)
 {
     uint64_t t11;
-    struct model__Tag t16;
+    (void)homes;
 
-    t11 = 7u * start;
-    t16 = log_replay__places__entry_from(log, groups, homes, start, slot, offset);
-    if (t16.tag == 0u) {
-    } else if (t16.tag == 1u) {
-        log_replay__words__take_entry(last, closers, table, map, t16.u64_0, t16.u64_1 - t11, offset);
-    } else {
-        log_replay__words__take_entry(last, closers, table, map, t16.u64_0, t16.u64_1 - t11, offset);
-    }
+    t11 = log_replay__places__word_from(log, groups, start, slot, offset);
+    log_replay__words__take_entry(last, closers, table, map, (t11 >> 2u) & 63u, offset - ((t11 >> 14u) & 8191u), offset);
 }
 
 /* Finds the newest committed entries of the homes of word `w` in an empty table, and returns the word that marks the homes that
@@ -3649,21 +3708,29 @@ static inline uint64_t base_batch__marked__emit_word(struct core_slice_mut_u8 ba
 
 /* Brings the touched homes of word `w` back into the data copy, and writes their records at an index of the batch; returns the
    index past them. */
-static inline uint64_t log_replay__restore__bring_word(struct core_slice_u8 log, struct core_slice_mut_u8 area, struct core_slice_mut_u8 batch,
+static inline uint64_t log_replay__restore__bring_chain(struct core_slice_u8 log, struct core_slice_mut_u8 area, struct core_slice_mut_u8 batch,
         uint64_t at, struct slice_u16 last, struct slice_u16 heads, struct slice_u16 links, uint64_t w, uint64_t groups,
         uint64_t homes, uint64_t start, uint64_t end, uint64_t slot)
 {
     struct array_u16_64 t14;
     uint64_t t15;
 
-    if (heads.ptr[(size_t)w] == 0u) {
-        return at;
-    }
     memset(&t14, 0, sizeof t14);
     t15 = log_replay__words__newest_in(log, last, heads, links, (struct slice_mut_u16){t14.at, 64u}, w, groups, homes, start, end,
             slot);
     log_replay__restore__restore_word(log, area, (struct slice_u16){t14.at, 64u}, groups, start, slot, t15, 64u * w);
     return base_batch__marked__emit_word(batch, at, t15, 64u * w, (struct core_slice_u8){area.ptr, area.len});
+}
+
+/* The same, at once where the word has no entry. */
+static inline uint64_t log_replay__restore__bring_word(struct core_slice_u8 log, struct core_slice_mut_u8 area, struct core_slice_mut_u8 batch,
+        uint64_t at, struct slice_u16 last, struct slice_u16 heads, struct slice_u16 links, uint64_t w, uint64_t groups,
+        uint64_t homes, uint64_t start, uint64_t end, uint64_t slot)
+{
+    if (heads.ptr[(size_t)w] == 0u) {
+        return at;
+    }
+    return log_replay__restore__bring_chain(log, area, batch, at, last, heads, links, w, groups, homes, start, end, slot);
 }
 
 /* Replays the transactions that close below `end` into the data copy, and writes the records of the homes that they touch at the
@@ -4200,30 +4267,36 @@ static inline uint64_t log_replay__stepping__one_if(uint16_t code)
     return t3;
 }
 
+/* How many of the homes from `from` to below `upto`, all of word `w`, are touched, by the table of the word's newest entries. */
+static inline uint64_t log_replay__stepping__codes_left(struct slice_u16 table, uint64_t w, uint64_t from, uint64_t upto)
+{
+    uint64_t t5, t6, t7, t10;
+
+    t5 = 64u * w;
+    t6 = 0u;
+    t7 = from;
+    while (t7 < upto) {
+        t10 = log_replay__stepping__one_if(table.ptr[(size_t)(t7 - t5)]);
+        t6 = t6 + t10;
+        t7 = t7 + 1u;
+    }
+    return t6;
+}
+
 /* How many of the homes from `from` to below `upto`, all of word `w`, are touched. */
 static inline uint64_t log_replay__stepping__count_part(struct core_slice_u8 log, struct slice_u16 last, struct slice_u16 heads,
         struct slice_u16 links, uint64_t w, uint64_t from, uint64_t upto, uint64_t groups, uint64_t homes, uint64_t start,
         uint64_t end, uint64_t slot)
 {
     struct array_u16_64 t13;
-    uint64_t t14, t15, t16, t21, t25;
 
     if (heads.ptr[(size_t)w] == 0u) {
         return 0u;
     }
     memset(&t13, 0, sizeof t13);
-    t21 = log_replay__words__newest_in(log, last, heads, links, (struct slice_mut_u16){t13.at, 64u}, w, groups, homes, start, end,
+    (void)log_replay__words__newest_in(log, last, heads, links, (struct slice_mut_u16){t13.at, 64u}, w, groups, homes, start, end,
             slot);
-    t21 = w;
-    t14 = 64u * t21;
-    t15 = 0u;
-    t16 = from;
-    while (t16 < upto) {
-        t25 = log_replay__stepping__one_if(t13.at[(size_t)(t16 - t14)]);
-        t15 = t15 + t25;
-        t16 = t16 + 1u;
-    }
-    return t15;
+    return log_replay__stepping__codes_left((struct slice_u16){t13.at, 64u}, w, from, upto);
 }
 
 /* How many homes from the cursor on the transactions of all closing entries below `end` touch, if they are at most `limit`; else
@@ -4250,19 +4323,6 @@ static inline uint64_t log_replay__stepping__count_from(struct core_slice_u8 log
     return t12;
 }
 
-/* The bytes of the last step's fence, if the homes found are within the limit. */
-static inline uint64_t log_tables__steps__fence_size(uint64_t found, uint64_t limit)
-{
-    uint64_t t4;
-
-    if (limit < found) {
-        t4 = 0u;
-    } else {
-        t4 = 2u;
-    }
-    return t4;
-}
-
 /* Brings a home back whose newest entry is said by a code of the table, and writes its record as the one after `done` others;
    returns how many it then are. A code of 0 leaves all as it is. */
 static inline uint64_t log_replay__stepping__bring_home(struct core_slice_u8 log, struct core_slice_mut_u8 area, struct core_slice_mut_u8 batch,
@@ -4276,81 +4336,133 @@ static inline uint64_t log_replay__stepping__bring_home(struct core_slice_u8 log
     return done + 1u;
 }
 
-/* Brings the touched homes from `from` to below `upto` back, all of word `w`, until `limit` are done in all. */
+/* Brings the touched homes from `from` to below `upto` back, all of word `w`, until `limit` are done in all, and counts those
+   that are left of them. A whole word that cannot reach the limit is brought back as settle does it. */
+static inline struct log_replay__stepping__Reached log_replay__stepping__bring_part_of(struct core_slice_u8 log,
+        struct core_slice_mut_u8 area, struct core_slice_mut_u8 batch, struct slice_u16 last, struct slice_u16 heads,
+        struct slice_u16 links, uint64_t w, uint64_t from, uint64_t upto, uint64_t groups, uint64_t homes, uint64_t start,
+        uint64_t end, uint64_t slot, uint64_t done, uint64_t limit)
+{
+    uint64_t t17, t19, t20, t21, t22, t39;
+    struct array_u16_64 t18;
+
+    if ((upto - from) == 64u) {
+        if (64u < (limit - done)) {
+            t17 = log_replay__restore__bring_chain(log, area, batch, 68u * done, last, heads, links, w, groups, homes, start, end,
+                    slot);
+            return (struct log_replay__stepping__Reached){.home = upto, .done = t17 / 68u, .rest = 0u};
+        }
+    }
+    memset(&t18, 0, sizeof t18);
+    t19 = log_replay__words__newest_in(log, last, heads, links, (struct slice_mut_u16){t18.at, 64u}, w, groups, homes, start, end,
+            slot);
+    if (t19 == 0u) {
+        return (struct log_replay__stepping__Reached){.home = upto, .done = done, .rest = 0u};
+    }
+    t20 = 64u * w;
+    t21 = done;
+    t22 = from;
+    while (t22 < upto) {
+        if (t21 == limit) {
+            t39 = log_replay__stepping__codes_left((struct slice_u16){t18.at, 64u}, w, t22, upto);
+            return (struct log_replay__stepping__Reached){.home = t22, .done = t21, .rest = t39};
+        }
+        t21 = log_replay__stepping__bring_home(log, area, batch, t18.at[(size_t)(t22 - t20)], groups, start, slot, t22, t21);
+        t22 = t22 + 1u;
+    }
+    return (struct log_replay__stepping__Reached){.home = t22, .done = t21, .rest = 0u};
+}
+
+/* The same, at once where the word has no entry. */
 static inline struct log_replay__stepping__Reached log_replay__stepping__bring_part(struct core_slice_u8 log, struct core_slice_mut_u8 area,
         struct core_slice_mut_u8 batch, struct slice_u16 last, struct slice_u16 heads, struct slice_u16 links, uint64_t w,
         uint64_t from, uint64_t upto, uint64_t groups, uint64_t homes, uint64_t start, uint64_t end, uint64_t slot, uint64_t done,
         uint64_t limit)
 {
-    struct array_u16_64 t17;
-    uint64_t t18, t19, t20, t26;
-
     if (heads.ptr[(size_t)w] == 0u) {
-        return (struct log_replay__stepping__Reached){.home = upto, .done = done};
+        return (struct log_replay__stepping__Reached){.home = upto, .done = done, .rest = 0u};
     }
-    memset(&t17, 0, sizeof t17);
-    t26 = log_replay__words__newest_in(log, last, heads, links, (struct slice_mut_u16){t17.at, 64u}, w, groups, homes, start, end,
-            slot);
-    t26 = w;
-    t18 = 64u * t26;
-    t19 = done;
-    t20 = from;
-    while (t20 < upto) {
-        if (t19 == limit) {
-            return (struct log_replay__stepping__Reached){.home = t20, .done = t19};
-        }
-        t19 = log_replay__stepping__bring_home(log, area, batch, t17.at[(size_t)(t20 - t18)], groups, start, slot, t20, t19);
-        t20 = t20 + 1u;
-    }
-    return (struct log_replay__stepping__Reached){.home = t20, .done = t19};
+    return log_replay__stepping__bring_part_of(log, area, batch, last, heads, links, w, from, upto, groups, homes, start, end,
+            slot, done, limit);
 }
 
-/* Brings the first `limit` touched homes from the cursor on back into the data copy, and writes their records at the batch's
-   beginning; returns the home after the last of them, if there is one. */
-static inline uint64_t log_replay__stepping__bring_from(struct core_slice_u8 log, struct core_slice_mut_u8 area, struct core_slice_mut_u8 batch,
-        struct slice_u16 last, struct slice_u16 heads, struct slice_u16 links, uint64_t groups, uint64_t homes, uint64_t start,
-        uint64_t end, uint64_t cursor, uint64_t limit)
+/* Brings the first `limit` touched homes from the cursor on back into the data copy, or all of them, and writes their records at
+   the batch's beginning; says where it has come, and whether touched homes are left. Each word's chain is gone along once. */
+static inline struct log_replay__stepping__Reached log_replay__stepping__bring_from(struct core_slice_u8 log, struct core_slice_mut_u8 area,
+        struct core_slice_mut_u8 batch, struct slice_u16 last, struct slice_u16 heads, struct slice_u16 links, uint64_t groups,
+        uint64_t homes, uint64_t start, uint64_t end, uint64_t cursor, uint64_t limit)
 {
-    uint64_t t13, t14, t15, t16;
+    uint64_t t13, t14, t15, t16, t19, t29;
     struct log_replay__stepping__Reached t17;
-    struct log_scan__slots__RingSlot t18;
+    struct log_scan__slots__RingSlot t20;
 
-    t18 = log_scan__slots__first_slot(start, groups);
-    t13 = t18.slot;
+    if (limit == 0u) {
+        t19 = log_replay__stepping__count_from(log, last, heads, links, groups, homes, start, end, cursor, 0u);
+        return (struct log_replay__stepping__Reached){.home = cursor, .done = 0u, .rest = t19};
+    }
+    t20 = log_scan__slots__first_slot(start, groups);
+    t13 = t20.slot;
     t14 = 0u;
     t15 = cursor;
     while (t15 < homes) {
-        if (t14 == limit) {
-            return t15;
-        }
         t16 = log_replay__stepping__word_end(t15, homes);
         t17 = log_replay__stepping__bring_part(log, area, batch, last, heads, links, t15 / 64u, t15, t16, groups, homes, start,
                 end, t13, t14, limit);
+        if (t17.done == limit) {
+            if (t17.rest != 0u) {
+                return t17;
+            }
+            t29 = log_replay__stepping__count_from(log, last, heads, links, groups, homes, start, end, t16, 0u);
+            return (struct log_replay__stepping__Reached){.home = t17.home, .done = limit, .rest = t29};
+        }
         t14 = t17.done;
-        t15 = t17.home;
+        t15 = t16;
     }
-    return t15;
+    return (struct log_replay__stepping__Reached){.home = t15, .done = t14, .rest = 0u};
+}
+
+/* The bytes of the last step's fence, if the homes found are within the limit. */
+static inline uint64_t log_tables__steps__fence_size(uint64_t found, uint64_t limit)
+{
+    uint64_t t4;
+
+    if (limit < found) {
+        t4 = 0u;
+    } else {
+        t4 = 2u;
+    }
+    return t4;
 }
 
 /* Finds the bytes that a step of at most `limit` homes from the cursor on takes. If the batch has them, those homes are brought
-   back into the data copy, and their records stand at the batch's beginning. */
+   back into the data copy, and their records stand at the batch's beginning. The homes are counted first only where the batch may
+   have no room for the most that can come. */
 static inline struct log_tables__steps__Made log_tables__steps__bring_some(struct core_slice_u8 log, struct core_slice_mut_u8 area,
         struct core_slice_mut_u8 batch, struct slice_u16 last, struct slice_u16 heads, struct slice_u16 links, uint64_t groups,
         uint64_t homes, uint64_t start, uint64_t end, uint64_t cursor, uint64_t limit)
 {
-    uint64_t t13, t14, t15, t17, t19;
-    bool t16;
+    uint64_t t13, t14, t16, t17, t18, t19, t24, t31;
+    struct log_replay__stepping__Reached t15, t21;
+    bool t20;
 
-    t13 = log_replay__stepping__count_from(log, last, heads, links, groups, homes, start, end, cursor, limit);
-    t14 = log_tables__whole__least(t13, limit);
-    t19 = log_tables__steps__fence_size(t13, limit);
-    t15 = (68u * t14) + t19;
-    t16 = limit < t13;
-    if ((uint64_t)batch.len < t15) {
-        return (struct log_tables__steps__Made){.size = t15, .next = cursor, .more = t16};
+    t13 = (uint64_t)batch.len;
+    t14 = log_tables__whole__least(limit, homes);
+    if (((68u * t14) + 2u) <= t13) {
+        t15 = log_replay__stepping__bring_from(log, area, batch, last, heads, links, groups, homes, start, end, cursor, t14);
+        t16 = t15.done + t15.rest;
+        t31 = log_tables__steps__fence_size(t16, limit);
+        return (struct log_tables__steps__Made){.size = (68u * t15.done) + t31, .next = t15.home, .more = limit < t16};
     }
-    t17 = log_replay__stepping__bring_from(log, area, batch, last, heads, links, groups, homes, start, end, cursor, t14);
-    return (struct log_tables__steps__Made){.size = t15, .next = t17, .more = t16};
+    t17 = log_replay__stepping__count_from(log, last, heads, links, groups, homes, start, end, cursor, limit);
+    t18 = log_tables__whole__least(t17, limit);
+    t24 = log_tables__steps__fence_size(t17, limit);
+    t19 = (68u * t18) + t24;
+    t20 = limit < t17;
+    if (t13 < t19) {
+        return (struct log_tables__steps__Made){.size = t19, .next = cursor, .more = t20};
+    }
+    t21 = log_replay__stepping__bring_from(log, area, batch, last, heads, links, groups, homes, start, end, cursor, t18);
+    return (struct log_tables__steps__Made){.size = t19, .next = t21.home, .more = t20};
 }
 
 /* Finds what is committed among the `n` positions from the start on, and brings it back: all homes where `limit` is 0, else at
