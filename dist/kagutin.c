@@ -193,6 +193,12 @@ struct model__Usage {
     uint64_t first;
 };
 
+struct object_runner__Cursor {
+    uint64_t at;
+    uint64_t headed;
+    uint64_t stage;
+};
+
 struct object_runner__Action {
     uint64_t kind;
     uint64_t area;
@@ -200,12 +206,6 @@ struct object_runner__Action {
     uint64_t size;
     uint64_t source;
     uint64_t from;
-    uint64_t at;
-    uint64_t headed;
-    uint64_t stage;
-};
-
-struct object_runner__Cursor {
     uint64_t at;
     uint64_t headed;
     uint64_t stage;
@@ -1211,10 +1211,25 @@ static inline uint64_t call_commit__close_held(struct slice_mut_u8 log, struct s
     return t9;
 }
 
+/* Whether the mark of a group and the number `n` stand in the eight bytes from index `at` on. All eight are compared at once.
+   [S-10] */
+static inline bool base_codec__marks__has_group_head(struct slice_u8 s, uint64_t at, uint64_t n)
+{
+    struct array_u8_2 t5;
+    struct slice_u8 t13;
+
+    t5 = (struct array_u8_2){{80u, 71u}};
+    t13 = (struct slice_u8){t5.at, 2u};
+    return load_8(s.ptr + (size_t)at) == (((n % UINT64_C(0x1000000000000)) * UINT64_C(0x10000)) + load_2(t13.ptr));
+}
+
 /* Whether the 512 bytes of a ring slot are a valid group with number `n`, in a log of `groups` groups from number `start` on. */
 static inline bool log_scan__groups__group_valid(struct slice_u8 group, uint64_t groups, uint64_t start, uint64_t n)
 {
-    if (!(load_8(group.ptr) == (((n % UINT64_C(0x1000000000000)) * UINT64_C(0x10000)) + 18256u))) {
+    bool t5;
+
+    t5 = base_codec__marks__has_group_head(group, 0u, n);
+    if (!t5) {
         return false;
     }
     if (n < start) {
@@ -1491,10 +1506,12 @@ static inline uint64_t log_newest__groups__keep_seven(struct slice_u8 group, uin
 static inline uint64_t log_newest__groups__keep_whole(struct slice_u8 group, uint64_t groups, uint64_t homes, uint64_t start,
         uint64_t n, uint64_t turn, uint64_t first, struct slice_mut_u8 newest)
 {
+    bool t9;
     (void)groups;
     (void)start;
 
-    if (!(load_8(group.ptr) == (((n % UINT64_C(0x1000000000000)) * UINT64_C(0x10000)) + 18256u))) {
+    t9 = base_codec__marks__has_group_head(group, 0u, n);
+    if (!t9) {
         return 0u;
     }
     return log_newest__groups__keep_seven(group, homes, n, turn, first, newest);
@@ -1651,11 +1668,13 @@ static inline bool log_shown__entry_there(struct slice_u8 log, struct model__Sta
 {
     uint64_t t6, t8;
     struct slice_u8 t7;
+    bool t13;
     (void)st;
 
     t6 = 64u + (512u * at.slot);
     t7 = (struct slice_u8){log.ptr + (size_t)t6, (size_t)((t6 + 512u) - t6)};
-    if (!(load_8(t7.ptr) == (((at.number % UINT64_C(0x1000000000000)) * UINT64_C(0x10000)) + 18256u))) {
+    t13 = base_codec__marks__has_group_head(t7, 0u, at.number);
+    if (!t13) {
         return false;
     }
     t8 = log_scan__groups__word_there(t7, at.turn, at.k);
@@ -3343,9 +3362,11 @@ static inline struct log_scan__commits__Progress log_scan__commits__visit_group(
 {
     uint64_t t10, t11, t12, t14, t19;
     struct log_scan__commits__Progress t13;
+    bool t15;
     (void)groups;
 
-    if (!(load_8(group.ptr) == (((n % UINT64_C(0x1000000000000)) * UINT64_C(0x10000)) + 18256u))) {
+    t15 = base_codec__marks__has_group_head(group, 0u, n);
+    if (!t15) {
         return progress;
     }
     t10 = ((1u | ((homes & 4095u) << 2u)) | ((uint64_t)0u << 14u)) | ((homes >> 12u) << 53u);
@@ -5491,6 +5512,28 @@ static inline struct model__Usage kagutin__kagutin_usage(struct slice_u8 log, st
     return call_usage__usage(log, area, state);
 }
 
+/* Whether all that is told can be meant: a medium, the groups of a store, and a cursor in a batch of `size` bytes. */
+static inline bool object_runner__asked(uint64_t landing, uint64_t groups, uint64_t next, uint64_t size,
+        struct object_runner__Cursor c)
+{
+    if (1u < landing) {
+        return false;
+    }
+    if (groups < 1u) {
+        return false;
+    }
+    if (1024u < groups) {
+        return false;
+    }
+    if (size < c.at) {
+        return false;
+    }
+    if (next < c.headed) {
+        return false;
+    }
+    return c.stage <= 2u;
+}
+
 /* Whether the two bytes of `mark` stand at index `at`. */
 static inline bool object_runner__has_mark(struct slice_u8 s, uint64_t at, struct slice_u8 mark)
 {
@@ -5694,29 +5737,19 @@ static inline struct object_runner__Action object_runner__record_action(struct s
 }
 
 /* The next action of a batch. `landing` is what the medium keeps whole (0 words of 8 bytes, 1 blocks of 64), `next` the number of
-   the next group that has not been submitted. Whatever is asked: a batch that is none, or a cursor beyond it, is refused. [S-85]
-   */
+   the next group that has not been submitted. Whatever is asked: a batch that is none, or a cursor that no batch has, is refused.
+   [S-85] */
 static inline struct object_runner__Action object_runner__kagutin_next_action(struct slice_u8 batch, uint64_t landing,
         uint64_t groups, uint64_t homes, uint64_t next, uint64_t at, uint64_t headed, uint64_t stage)
 {
     struct object_runner__Cursor t9;
     uint64_t t10;
+    bool t12;
 
     t9 = (struct object_runner__Cursor){.at = at, .headed = headed, .stage = stage};
-    if (1u < landing) {
-        return (struct object_runner__Action){.kind = 3u, .area = 0u, .offset = 0u, .size = 0u, .source = 0u, .from = 0u,
-                .at = t9.at, .headed = t9.headed, .stage = t9.stage};
-    }
-    if (groups < 1u) {
-        return (struct object_runner__Action){.kind = 3u, .area = 0u, .offset = 0u, .size = 0u, .source = 0u, .from = 0u,
-                .at = t9.at, .headed = t9.headed, .stage = t9.stage};
-    }
-    if (1024u < groups) {
-        return (struct object_runner__Action){.kind = 3u, .area = 0u, .offset = 0u, .size = 0u, .source = 0u, .from = 0u,
-                .at = t9.at, .headed = t9.headed, .stage = t9.stage};
-    }
     t10 = (uint64_t)batch.len;
-    if (t10 < at) {
+    t12 = object_runner__asked(landing, groups, next, t10, t9);
+    if (!t12) {
         return (struct object_runner__Action){.kind = 3u, .area = 0u, .offset = 0u, .size = 0u, .source = 0u, .from = 0u,
                 .at = t9.at, .headed = t9.headed, .stage = t9.stage};
     }
