@@ -36,7 +36,7 @@ static const struct shape shapes[] = {
     {"sync-none", SYNC, KGT_LANDS_BLOCKS, 0, 0, 580},
     {"sync", SYNC, KGT_LANDS_BLOCKS, 4, 0, 799},
     {"sync-words", SYNC, KGT_LANDS_WORDS, 4, 0, 971},
-    {"sync-words-8", SYNC, KGT_LANDS_WORDS, 4, 7, 1700},
+    {"sync-words-8", SYNC, KGT_LANDS_WORDS, 4, 7, 1800},
     {"maintain", MAINTAIN, KGT_LANDS_WORDS, 0, 3, 7299},
 };
 

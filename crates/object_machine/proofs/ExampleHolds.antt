@@ -6,7 +6,7 @@ use Rattle.model.specs.Bytes.{same}
 use Rattle.model.specs.examples.Trials.{fill}
 use Rattle.model.proofs.examples.Computing.{all-definitions}
 use Rattle.abstract_store.specs.Usage.{noHolder, holdsLower, holderOf}
-use Rattle.object_runner.specs.Next.{bare, write, past, parts, groupAction, homeAction, wiping, wholeHeader, wipeAction, headerAction, due, dueAction, fenceAction, recordAction, nextAction}
+use Rattle.object_runner.specs.Next.{bare, write, past, parts, groupAction, homeAction, wiping, wholeHeader, wipeAction, headerAction, due, dueAction, fenceAction, recordAction, asked as mayAsk, nextAction}
 use Rattle.object_machine.specs.Control.{controlOf, putNumbers, firstFields, middleFields, lastFields, putControl, known, fresh, withStage, withCondition, withBatch, withCursor, withAsk, withRoom}
 use Rattle.object_machine.specs.Calls.{besideBatch, besideState, besideAll, opens, reserves, stores, commits, flushes, confirms, settles, roundBegins, roundSteps, trims, nothing, writersCall, roomCall}
 use Rattle.object_machine.specs.Moves.{done, load, pass, moved, answers, passes, callAt, callInRound, guarded, settled, atStage, chosen, after, goesOn, full, heldBack, possible, mayMakeRoom, tellsHolder, refuses, headedAt, called, givesUp, looks, more, uncalled}
@@ -14,7 +14,7 @@ use Rattle.object_machine.specs.Next.{stays, fails, handed, handsOut, ho
 use Rattle.object_machine.specs.Example.{bytesOf, written, loaded, afterNext, carried, turnByTurn, turnsOf, asking, runs, started, begun, opened, stored, committed, synced, reopened, shown, reserving, twoStored, twoSynced, halfSettled, failing}
 
 unfoldable computed : Bool
-unfolding all-definitions noHolder holdsLower holderOf bare write past parts groupAction homeAction wiping wholeHeader wipeAction headerAction due dueAction fenceAction recordAction nextAction controlOf putNumbers firstFields middleFields lastFields putControl known fresh withStage withCondition withBatch withCursor withAsk withRoom besideBatch besideState besideAll opens reserves stores commits flushes confirms settles roundBegins roundSteps trims nothing writersCall roomCall done load pass moved answers passes callAt callInRound guarded settled atStage chosen after goesOn full heldBack possible mayMakeRoom tellsHolder refuses headedAt called givesUp looks more uncalled stays fails handed handsOut holderFor given makes follows leftBy onward goes refused keeps underWay lengthsRight nextCall shut refusal askAnswer conditionFor asks askCall initCall readyTurn atOnce beginTurn readTurn bytesOf written loaded afterNext carried turnByTurn turnsOf asking runs started begun opened stored committed synced reopened shown reserving twoStored twoSynced halfSettled failing
+unfolding all-definitions noHolder holdsLower holderOf bare write past parts groupAction homeAction wiping wholeHeader wipeAction headerAction due dueAction fenceAction recordAction mayAsk nextAction controlOf putNumbers firstFields middleFields lastFields putControl known fresh withStage withCondition withBatch withCursor withAsk withRoom besideBatch besideState besideAll opens reserves stores commits flushes confirms settles roundBegins roundSteps trims nothing writersCall roomCall done load pass moved answers passes callAt callInRound guarded settled atStage chosen after goesOn full heldBack possible mayMakeRoom tellsHolder refuses headedAt called givesUp looks more uncalled stays fails handed handsOut holderFor given makes follows leftBy onward goes refused keeps underWay lengthsRight nextCall shut refusal askAnswer conditionFor asks askCall initCall readyTurn atOnce beginTurn readTurn bytesOf written loaded afterNext carried turnByTurn turnsOf asking runs started begun opened stored committed synced reopened shown reserving twoStored twoSynced halfSettled failing
 computed = true
 
 -- done, with no commit brought back; then the commit's ticket, and the mark that reaches it
