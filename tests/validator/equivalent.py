@@ -11,4 +11,6 @@ EQUIVALENT = {
         'where both are equal their difference, too, is 0',
     ('log_scan__commits__skipped', 'if (first < position) {  ->  if (first <= position) {'):
         'the same',
+    ('call_rights__zeros__zero_entry', '| load_8(log.ptr + (size_t)(place + 24u))));  ->  | load_4(log.ptr + (size_t)(place + 24u))));'):
+        'the eight bytes there are the first of the next four words, too, so that they are asked all the same',
 }
