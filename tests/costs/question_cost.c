@@ -25,8 +25,8 @@ static const struct shape {
     enum pending pending;
     unsigned most, most_confirm;
 } shapes[] = {
-    {"idle", 0, BEGUN, NOTHING, 60, 90},     {"one-begun", 1, BEGUN, NOTHING, 60, 90},  {"one-holds", 1, HOLDS, NOTHING, 60, 105},
-    {"one-logs", 1, LOGS, NOTHING, 66, 110}, {"eight-hold", 8, HOLDS, NOTHING, 0, 190}, {"eight-log", 8, LOGS, NOTHING, 0, 240},
+    {"idle", 0, BEGUN, NOTHING, 60, 90},     {"one-begun", 1, BEGUN, NOTHING, 60, 90},  {"one-holds", 1, HOLDS, NOTHING, 64, 105},
+    {"one-logs", 1, LOGS, NOTHING, 70, 110}, {"eight-hold", 8, HOLDS, NOTHING, 0, 190}, {"eight-log", 8, LOGS, NOTHING, 0, 240},
     {"round", 0, BEGUN, ROUND, 0, 130},      {"promise", 1, BEGUN, PROMISES, 0, 130},   {"both", 1, BEGUN, BOTH, 0, 130},
 };
 
