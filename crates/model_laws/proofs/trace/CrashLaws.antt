@@ -187,9 +187,9 @@ pub chosen-stop : (chosen : ℕ → Bool) (i : ℕ) (R S : List Record) (m : Mem
     → persist_chosen chosen i (R ++ S) m ≡ persist_chosen chosen i R m
 unfolding persist_chosen fences is_fence
 chosen-stop chosen i [] S m h = absurd (omega arith)
-chosen-stop chosen i (GW slot group ∷ R) S m h = chosen-stop chosen _ R S _ (omega arith)
-chosen-stop chosen i (HW home block ∷ R) S m h = chosen-stop chosen _ R S _ (omega arith)
-chosen-stop chosen i (KW header ∷ R) S m h = chosen-stop chosen _ R S _ (omega arith)
+chosen-stop chosen i (GW slot group ∷ R) S m h = chosen-stop chosen (i + many (pieces (GW slot group))) R S _ (omega arith)
+chosen-stop chosen i (HW home block ∷ R) S m h = chosen-stop chosen (i + many (pieces (HW home block))) R S _ (omega arith)
+chosen-stop chosen i (KW header ∷ R) S m h = chosen-stop chosen (i + many (pieces (KW header))) R S _ (omega arith)
 chosen-stop chosen i (FN ∷ R) S m h = refl
 
 pub persist-stop : (passed : ℕ) (chosen : ℕ → Bool) (R S : List Record) (m : Memory) → passed < fences R
@@ -206,9 +206,9 @@ persist-stop (suc n) chosen (FN ∷ R) S m h = persist-stop n chosen R S _ (omeg
 pub fate-stop : (chosen : ℕ → Bool) (i : ℕ) (R S : List Record) → 0 < fences R → fates_chosen chosen i (R ++ S) ≡ fates_chosen chosen i R
 unfolding fates_chosen fences is_fence group_fate
 fate-stop chosen i [] S h = absurd (omega arith)
-fate-stop chosen i (GW slot group ∷ R) S h = rw (fate-stop chosen _ R S (omega arith))
-fate-stop chosen i (HW home block ∷ R) S h = fate-stop chosen _ R S (omega arith)
-fate-stop chosen i (KW header ∷ R) S h = fate-stop chosen _ R S (omega arith)
+fate-stop chosen i (GW slot group ∷ R) S h = rw (fate-stop chosen (i + many (pieces (GW slot group))) R S (omega arith))
+fate-stop chosen i (HW home block ∷ R) S h = fate-stop chosen (i + many (pieces (HW home block))) R S (omega arith)
+fate-stop chosen i (KW header ∷ R) S h = fate-stop chosen (i + many (pieces (KW header))) R S (omega arith)
 fate-stop chosen i (FN ∷ R) S h = refl
 
 pub fates-stop : (passed : ℕ) (chosen : ℕ → Bool) (R S : List Record) → passed < fences R

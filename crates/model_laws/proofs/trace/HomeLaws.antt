@@ -11,7 +11,7 @@ use lib.Dec.{eqb}
 use lib.ListN.{length}
 use Rattle.model.specs.Bytes.{puts}
 use Rattle.model.specs.Layout.{home_at, put_home}
-use Rattle.model.specs.Batch.{KW}
+use Rattle.model.specs.Batch.{HW, KW}
 use Rattle.model.specs.Effects.{marked, home_writes}
 use Rattle.model.specs.Crash.{Memory, to_area, pieces, write, write_each, write_if, write_chosen, many, is_fence, persist_chosen, group_fate, fates_chosen}
 use Rattle.model_laws.proofs.bytes.ByteLaws.{length_part}
@@ -95,7 +95,7 @@ chosen-homeless chosen i area m = refl
 pub fates-homes : (chosen : ℕ → Bool) (i : ℕ) (area hs : List ℕ) → fates_chosen chosen i (home_writes area hs) ≡ []
 unfolding home_writes fates_chosen is_fence group_fate
 fates-homes chosen i area [] = refl
-fates-homes chosen i area (h ∷ hs) = fates-homes chosen _ area hs
+fates-homes chosen i area (h ∷ hs) = fates-homes chosen (i + many (pieces (HW h (home_at area h)))) area hs
 
 pub log-homes : (chosen : ℕ → Bool) (i : ℕ) (area hs : List ℕ) (m : Memory) → (persist_chosen chosen i (home_writes area hs) m).log ≡ m.log
 log-homes chosen i area [] m = rw chosen-homeless
