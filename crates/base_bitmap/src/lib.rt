@@ -1,4 +1,6 @@
 // Words of 64 bits: which are set, from the lowest on; and maps of one bit for each home, n words for 64 × n homes, as specs/ defines them.
+#![tactic(auto)]
+
 ghost use Rattle.std.specs.Prelude.{◌≡◌, true, ◌||◌, ◌∷◌, ℕ, ◌*◌, ◌≤◌, ◌<◌, eqb, length, drop};
 ghost use Rattle.std.specs.Int.Count.{count_trailing_zeros};
 ghost use Rattle.base_bitmap.specs.Marks.{bit, marks, with_mark, bits_of};

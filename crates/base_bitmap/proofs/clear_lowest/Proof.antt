@@ -4,7 +4,7 @@ use Rattle.base_bitmap.proofs.WordLaws.{cleared-lt, cleared-rest, cleared-others
 use Rattle.base_bitmap.proofs.clear_lowest.Statement.{statement}
 use Rattle.base_bitmap.proofs.clear_lowest.Tie as tie
 
-sub-result : tie.Need-overflow-sub-result
+sub-result : tie.Need-overflow_sub-result
 sub-result c = search rules
 
 returns : tie.Need-returns
@@ -14,5 +14,5 @@ returns c = (
   cleared-others c.args.w c.requires c.ranges.w.fits,
 )
 
-pub clear-lowest-spec : {M : Type 1} → statement M
-clear-lowest-spec = tie.close (tie.spec sub-result returns)
+pub clear_lowest_spec : {M : Type 1} → statement M
+clear_lowest_spec = tie.close (tie.spec sub-result returns)

@@ -6,7 +6,7 @@ use Rattle.base_bitmap.proofs.WordLaws.{lowest-lt, lowest-first, lowest_set}
 use Rattle.base_bitmap.proofs.lowest.Statement.{statement}
 use Rattle.base_bitmap.proofs.lowest.Tie as tie
 
-cast-result : tie.Need-overflow-cast-result
+cast-result : tie.Need-overflow_cast-result
 cast-result c = omega (arith, trailing_le 64 c.args.w, leading_le 64 c.args.w)
 
 returns : tie.Need-returns
@@ -17,5 +17,5 @@ returns c = (
   lowest_set c.args.w c.requires c.ranges.w.fits,
 )
 
-pub lowest-spec : {M : Type 1} → statement M
-lowest-spec = tie.close (tie.spec cast-result returns)
+pub lowest_spec : {M : Type 1} → statement M
+lowest_spec = tie.close (tie.spec cast-result returns)
