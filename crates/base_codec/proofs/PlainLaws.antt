@@ -1,7 +1,6 @@
 -- Laws of a word compared with that of an entry for home 0 which does not close its transaction, by the bits in which the two differ. Assumes nothing.
 use mathlib.Core.Path.{◌≡◌, refl, sym, ap, ◌∙◌}
-use mathlib.Core.Logic.{◌≢◌}
-use Prim.Native.Nat.{ℕ, ◌+◌, ◌-◌, ◌*◌, ◌/◌, ◌%◌, ◌^◌, ◌≤◌, ◌<◌}
+use Prim.Native.Nat.{ℕ, ◌+◌, ◌-◌, ◌*◌, ◌/◌, ◌%◌, ◌^◌, ◌<◌}
 use native.Mathlib.Nat.{mod-mod}
 use native.Mathlib.Omega.{arith}
 use lib.Bits.{bit_and, bit_xor, xor_self, xor_zero_r, xor_block, xor_add_and, and_le_l, and_le_r, and_mask, and_high, and_shr, and_mod, xor_shr, xor_mod}

@@ -1,4 +1,6 @@
 // Numbers, blocks, tags, turn bits and marks in slices of bytes, as model/specs defines them.
+#![tactic(auto)]
+
 mod blocks;
 mod kinds;
 mod marks;

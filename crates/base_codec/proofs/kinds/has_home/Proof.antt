@@ -8,5 +8,5 @@ use Rattle.base_codec.proofs.kinds.has_home.Tie as tie
 returns : tie.Need-returns
 returns c homes e u = home_below _ _ (omega arith) refl refl refl refl refl refl _ homes e u
 
-pub has-home-spec : {M : Type 1} → statement M
-has-home-spec = tie.close (tie.spec returns)
+pub has_home_spec : {M : Type 1} → statement M
+has_home_spec = tie.close (tie.spec returns)

@@ -8,5 +8,5 @@ use Rattle.base_codec.proofs.kinds.is_closing.Tie as tie
 returns : tie.Need-returns
 returns c = closing-bits _ _ (omega arith) refl refl refl refl refl refl
 
-pub is-closing-spec : {M : Type 1} → statement M
-is-closing-spec = tie.close (tie.spec returns)
+pub is_closing_spec : {M : Type 1} → statement M
+is_closing_spec = tie.close (tie.spec returns)

@@ -8,5 +8,5 @@ use Rattle.base_codec.proofs.kinds.is_plain.Tie as tie
 returns : tie.Need-returns
 returns c = plain-bits _ _ (omega arith) refl refl refl refl refl refl
 
-pub is-plain-spec : {M : Type 1} → statement M
-is-plain-spec = tie.close (tie.spec returns)
+pub is_plain_spec : {M : Type 1} → statement M
+is_plain_spec = tie.close (tie.spec returns)

@@ -8,5 +8,5 @@ returns : tie.Need-returns
 unfolding field
 returns c = and_mask _ 13
 
-pub tag-count-spec : {M : Type 1} → statement M
-tag-count-spec = tie.close (tie.spec returns)
+pub tag_count_spec : {M : Type 1} → statement M
+tag_count_spec = tie.close (tie.spec returns)

@@ -8,5 +8,5 @@ returns : tie.Need-returns
 unfolding field
 returns c = and_mask _ 13
 
-pub tag-link-spec : {M : Type 1} → statement M
-tag-link-spec = tie.close (tie.spec returns)
+pub tag_link_spec : {M : Type 1} → statement M
+tag_link_spec = tie.close (tie.spec returns)

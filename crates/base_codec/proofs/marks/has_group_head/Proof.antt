@@ -7,26 +7,23 @@ use Rattle.base_codec.proofs.MarkLaws.{head-word}
 use Rattle.base_codec.proofs.marks.has_group_head.Statement.{statement}
 use Rattle.base_codec.proofs.marks.has_group_head.Tie as tie
 
-slice-aggregate-number : tie.Need-slice-aggregate-number
-slice-aggregate-number c = search rules
-
-number-requires : tie.Need-number-requires
+number-requires : tie.Need-number-mark-requires
 number-requires c κs = search rules
 
-number-requires-2 : tie.Need-number-requires-2
+number-requires-2 : tie.Need-number-requires
 number-requires-2 c κs = search rules
 
-mul-result : tie.Need-overflow-mul-result
+mul-result : tie.Need-overflow_mul-result
 mul-result c = search rules
 
-add-result : tie.Need-overflow-add-result
+add-result : tie.Need-overflow_add-result
 add-result c = search rules
 
 returns : tie.Need-returns
 returns c =
-    let a = c.before.before.before.before.args in
-    let byte : (i : ℕ) → get_or a.s.now i 0 < 256 = λ i. omega (arith, c.before.before.before.shared-slice-known.given i) in
-    rw (c.number2.ensures.0, c.before.number.ensures.0) (head-word a.s.now a.at (a.n % 2 ^ 48) (omega arith) byte)
+    let a = c.args in
+    let byte : (i : ℕ) → get_or a.s.now i 0 < 256 = λ i. omega (arith, c.shared_slice_known-1.given i) in
+    rw (c.number.ensures.0, c.number-mark.ensures.0) (head-word a.s.now a.at (a.n % 2 ^ 48) (omega arith) byte)
 
-pub has-group-head-spec : {M : Type 1} → statement M
-has-group-head-spec = tie.close (tie.spec slice-aggregate-number number-requires number-requires-2 mul-result add-result returns)
+pub has_group_head_spec : {M : Type 1} → statement M
+has_group_head_spec = tie.close (tie.spec number-requires number-requires-2 mul-result add-result returns)

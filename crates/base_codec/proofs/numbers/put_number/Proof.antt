@@ -5,62 +5,60 @@ use Rattle.base_codec.proofs.JoinLaws.{put-joined}
 use Rattle.base_codec.proofs.numbers.put_number.Statement.{statement}
 use Rattle.base_codec.proofs.numbers.put_number.Tie as tie
 
-put-four-bytes-requires : tie.Need-put-four-bytes-requires
+put-four-bytes-requires : tie.Need-put_four_bytes-requires
 put-four-bytes-requires c κs = search rules
 
-add-put-four-bytes : tie.Need-overflow-add-put-four-bytes
+add-put-four-bytes : tie.Need-overflow_add-at
 add-put-four-bytes c = search rules
 
-put-four-bytes-requires-2 : tie.Need-put-four-bytes-requires-2
+put-four-bytes-requires-2 : tie.Need-put_four_bytes-requires-then-k-eq8
 put-four-bytes-requires-2 c κs = search rules
 
-same_length : tie.Need-same-length
+same_length : tie.Need-shape_of-s-then-k-eq8
 same_length c = search rules
 
-returns : tie.Need-returns
+returns : tie.Need-returns-then-k-eq8
 returns c =
-    let p = c.before.before.before.before.before.before in
-    let a = p.before.before.before.before.args in
-    rw p.before.before.if1.true (c.before.before.put-four-bytes2.ensures ∙ rw p.put-four-bytes.ensures (put-joined 4 4 _ a.at a.v))
+    let a = c.args in
+    rw c.if-k-eq8.true (c.put_four_bytes-then-k-eq8.ensures ∙ rw c.put_four_bytes.ensures (put-joined 4 4 _ a.at a.v))
 
-put-four-bytes-requires-3 : tie.Need-put-four-bytes-requires-3
+put-four-bytes-requires-3 : tie.Need-put_four_bytes-requires-then-k-eq6
 put-four-bytes-requires-3 c κs = search rules
 
-add-put-two-bytes : tie.Need-overflow-add-put-two-bytes
+add-put-two-bytes : tie.Need-overflow_add-at-then-k-eq6
 add-put-two-bytes c = search rules
 
-put-two-bytes-requires : tie.Need-put-two-bytes-requires
+put-two-bytes-requires : tie.Need-put_two_bytes-requires
 put-two-bytes-requires c κs = search rules
 
-same-length-2 : tie.Need-same-length-2
+same-length-2 : tie.Need-shape_of-s-then-k-eq6
 same-length-2 c = search rules
 
-returns-2 : tie.Need-returns-2
+returns-2 : tie.Need-returns-then-k-eq6
 returns-2 c =
-    let p = c.before.before.before.before.before.before in
-    let a = p.before.before.before.before.before.args in
-    rw p.before.before.if2.true (c.before.before.put-two-bytes.ensures ∙ rw p.put-four-bytes3.ensures (put-joined 4 2 _ a.at a.v))
+    let a = c.args in
+    rw c.if-k-eq6.true (c.put_two_bytes.ensures ∙ rw c.put_four_bytes-then-k-eq6.ensures (put-joined 4 2 _ a.at a.v))
 
-put-two-bytes-requires-2 : tie.Need-put-two-bytes-requires-2
+put-two-bytes-requires-2 : tie.Need-put_two_bytes-requires-then-k-eq2
 put-two-bytes-requires-2 c κs = search rules
 
-same-length-3 : tie.Need-same-length-3
+same-length-3 : tie.Need-shape_of-s-then-k-eq2
 same-length-3 c = search rules
 
-returns-3 : tie.Need-returns-3
-returns-3 c = rw c.before.before.before.before.if3.true c.before.before.put-two-bytes2.ensures
+returns-3 : tie.Need-returns-then-k-eq2
+returns-3 c = rw c.if-k-eq2.true c.put_two_bytes-then-k-eq2.ensures
 
-put-each-byte-requires : tie.Need-put-each-byte-requires
+put-each-byte-requires : tie.Need-put_each_byte-requires
 put-each-byte-requires c κs = search rules
 
-same-length-4 : tie.Need-same-length-4
+same-length-4 : tie.Need-shape_of-s
 same-length-4 c = search rules
 
-returns-4 : tie.Need-returns-4
+returns-4 : tie.Need-returns
 returns-4 c = search rules
 
-pub put-number-spec : {M : Type 1} → statement M
-put-number-spec =
+pub put_number_spec : {M : Type 1} → statement M
+put_number_spec =
     tie.close
     (tie.spec
     put-four-bytes-requires

@@ -7,26 +7,26 @@ use Rattle.base_codec.proofs.JoinLaws.{number-one, joined}
 use Rattle.base_codec.proofs.numbers.two_bytes.Statement.{statement}
 use Rattle.base_codec.proofs.numbers.two_bytes.Tie as tie
 
-shared-slice-read-result : tie.Need-shared-slice-read-result
+shared-slice-read-result : tie.Need-bounds-s-at
 shared-slice-read-result c = search rules
 
-cast-result : tie.Need-overflow-cast-result
-cast-result c = omega (arith, c.shared-slice-known.given c.before.args.at)
+cast-result : tie.Need-overflow_cast-result
+cast-result c = omega (arith, c.shared_slice_known-1.given c.args.at)
 
-add-result : tie.Need-overflow-add-result
+add-result : tie.Need-overflow_add-result
 add-result c = search rules
 
-shared-slice-read-result-2 : tie.Need-shared-slice-read-result-2
+shared-slice-read-result-2 : tie.Need-bounds-s-at-2
 shared-slice-read-result-2 c = search rules
 
-cast-result-2 : tie.Need-overflow-cast-result-2
-cast-result-2 c = omega (arith, c.shared-slice-known2.given (c.before.before.args.at + 1))
+cast-result-2 : tie.Need-overflow_cast-result-2
+cast-result-2 c = omega (arith, c.shared_slice_known-2-1.given (c.args.at + 1))
 
 returns : tie.Need-returns
 returns c =
-    let a = c.before.before.args in
-    joined 1 1 a.s.now a.at _ _ (sym (number-one _ _), omega (arith, c.before.shared-slice-known.given a.at))
-    (sym (number-one _ _), omega (arith, c.shared-slice-known2.given (a.at + 1))) (omega arith)
+    let a = c.args in
+    joined 1 1 a.s.now a.at _ _ (sym (number-one _ _), omega (arith, c.shared_slice_known-1.given a.at))
+    (sym (number-one _ _), omega (arith, c.shared_slice_known-2-1.given (a.at + 1))) (omega arith)
 
-pub two-bytes-spec : {M : Type 1} → statement M
-two-bytes-spec = tie.close (tie.spec shared-slice-read-result cast-result add-result shared-slice-read-result-2 cast-result-2 returns)
+pub two_bytes_spec : {M : Type 1} → statement M
+two_bytes_spec = tie.close (tie.spec shared-slice-read-result cast-result add-result shared-slice-read-result-2 cast-result-2 returns)

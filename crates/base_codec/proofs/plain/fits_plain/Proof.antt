@@ -8,5 +8,5 @@ use Rattle.base_codec.proofs.plain.fits_plain.Tie as tie
 returns : tie.Need-returns
 returns c t back e h = plain-shape _ back e h _ (omega arith) (eqb-true _ 0 t)
 
-pub fits-plain-spec : {M : Type 1} → statement M
-fits-plain-spec = tie.close (tie.spec returns)
+pub fits_plain_spec : {M : Type 1} → statement M
+fits_plain_spec = tie.close (tie.spec returns)

@@ -9,5 +9,5 @@ use Rattle.base_codec.proofs.plain.other_back.Tie as tie
 returns : tie.Need-returns
 returns c t back e h s = false≢true (sym (not-true _ t) ∙ eq-eqb _ 0 (back-same _ back e h _ s))
 
-pub other-back-spec : {M : Type 1} → statement M
-other-back-spec = tie.close (tie.spec returns)
+pub other_back_spec : {M : Type 1} → statement M
+other_back_spec = tie.close (tie.spec returns)

@@ -20,5 +20,5 @@ returns c =
     let e5 = then-field 4 53 (a.home / 2 ^ 12) e4 (omega arith) (omega (arith, mask_lt a.home 12)) (omega arith) in
     omega (arith, e5, m)
 
-pub commit-word-spec : {M : Type 1} → statement M
-commit-word-spec = tie.close (tie.spec returns)
+pub commit_word_spec : {M : Type 1} → statement M
+commit_word_spec = tie.close (tie.spec returns)

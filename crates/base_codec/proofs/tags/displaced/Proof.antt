@@ -9,5 +9,5 @@ returns : tie.Need-returns
 unfolding displaced field
 returns c = let w = c.args.word / 2 ^ 57 in (and_mask w 1, mask_lt w 1)
 
-pub displaced-spec : {M : Type 1} → statement M
-displaced-spec = tie.close (tie.spec returns)
+pub displaced_spec : {M : Type 1} → statement M
+displaced_spec = tie.close (tie.spec returns)

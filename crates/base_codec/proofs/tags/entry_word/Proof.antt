@@ -18,5 +18,5 @@ returns c =
     let e3 = then-field 4 53 (a.home / 2 ^ 12) e2 (omega arith) (omega (arith, mask_lt a.home 12)) (omega arith) in
     omega (arith, e3, m)
 
-pub entry-word-spec : {M : Type 1} → statement M
-entry-word-spec = tie.close (tie.spec returns)
+pub entry_word_spec : {M : Type 1} → statement M
+entry_word_spec = tie.close (tie.spec returns)

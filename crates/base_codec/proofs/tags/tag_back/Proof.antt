@@ -8,5 +8,5 @@ returns : tie.Need-returns
 unfolding field
 returns c = and_mask _ 13
 
-pub tag-back-spec : {M : Type 1} → statement M
-tag-back-spec = tie.close (tie.spec returns)
+pub tag_back_spec : {M : Type 1} → statement M
+tag_back_spec = tie.close (tie.spec returns)

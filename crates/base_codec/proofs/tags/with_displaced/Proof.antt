@@ -9,5 +9,5 @@ returns : tie.Need-returns
 unfolding with_displaced
 returns c = let a = c.args in omega (arith, field-or 1 57 a.bit a.word (omega arith) (omega arith) (omega arith))
 
-pub with-displaced-spec : {M : Type 1} → statement M
-with-displaced-spec = tie.close (tie.spec returns)
+pub with_displaced_spec : {M : Type 1} → statement M
+with_displaced_spec = tie.close (tie.spec returns)
