@@ -1,4 +1,6 @@
 // Two lists of levels of one pit, as a pressure cell and an echo sounder give them, compared minute by minute.
+#![tactic(auto)]
+
 mod merge;
 mod readings;
 

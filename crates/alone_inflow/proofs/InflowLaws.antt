@@ -6,7 +6,7 @@ use native.Mathlib.Nat.{mul-le-mul, mul-le-mul_left}
 use native.Mathlib.Omega.{arith}
 use borrow.Author.Tests.{ltb-true, ltb-false}
 use lib.Dec.{ltb}
-use lib.IntN.{ℤ, pos, sub_ℕ, ◌+ℤ◌, ◌-ℤ◌, ◌*ℤ◌}
+use lib.IntN.{pos, sub_ℕ, ◌+ℤ◌, ◌-ℤ◌, ◌*ℤ◌}
 use lib.Signed.{mag, ◌≤ℤ◌}
 use Rattle.alone_inflow.specs.Inflow.{inflow}
 use Rattle.alone_inflow.proofs.IntegerLaws.{sub-ge, sub-lt, minus, neg-plus, sub-shift, sub-mono, mag-sub}

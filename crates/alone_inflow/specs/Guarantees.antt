@@ -1,5 +1,5 @@
 -- What the definitions promise, read off the request and not off their text.
-use Rattle.std.specs.Prelude.{ℕ, ◌^◌, ◌≤◌, ◌<◌, ◌≡◌, ℤ, pos, negsuc, ◌≤ℤ◌}
+use Rattle.std.specs.Prelude.{ℕ, ◌^◌, ◌≤◌, ◌<◌, ◌≡◌, pos, negsuc, ◌≤ℤ◌}
 use Rattle.std.specs.Int.Signed.{mag}
 use Rattle.alone_inflow.specs.Inflow.{inflow, Given, given, bound_inflow}
 

@@ -1,4 +1,6 @@
 // Least and most inflow of a pit whose depth is known only as between two floats.
+#![tactic(auto)]
+
 ghost use Rattle.std.specs.Prelude.{◌≡◌, ◌^◌, ◌≤◌, ◌<◌, pos};
 ghost use Rattle.alone_inflow.specs.Inflow.{inflow, given, gives, bound_inflow};
 

@@ -1,7 +1,7 @@
 -- What a line of trial 14's script asks for.
 -- "Lines: b, s, c with writer (s: also home and fill byte, all decimal), f flush, w settle, t trim. Numbers are at most 65,535, fill bytes at most 255;
 -- any other line is malformed and prints "?"." A field stands after exactly one space.
-use Rattle.std.specs.Prelude.{ℕ, ◌+◌, Bool, cond, ◌||◌, List, [], ◌∷◌, eqb, leb, length, take, drop}
+use Rattle.std.specs.Prelude.{ℕ, ◌+◌, cond, ◌||◌, List, [], ◌∷◌, eqb, leb, length, take, drop}
 use Rattle.prog_lines.specs.Text.{index_of, decimal}
 use Rattle.prog_lines.specs.declared.Line.{Line}
 use Rattle.prog_lines.specs.declared.Line.TheVariants.{Begin, Store, Commit, Flush, Settle, Trim, Malformed}

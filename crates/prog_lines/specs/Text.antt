@@ -1,5 +1,5 @@
 -- Fields and decimal numbers in the text of a script.
-use Rattle.std.specs.Prelude.{ℕ, suc, ◌+◌, ◌-◌, ◌*◌, Bool, cond, ◌&&◌, List, [], ◌∷◌, eqb, leb}
+use Rattle.std.specs.Prelude.{ℕ, suc, ◌+◌, ◌-◌, ◌*◌, cond, ◌&&◌, List, [], ◌∷◌, eqb, leb}
 
 -- the index of the first byte `stop`, or the length
 unfoldable pub index_of : ℕ → List ℕ → ℕ

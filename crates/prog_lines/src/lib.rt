@@ -2,6 +2,8 @@
 //
 // A field stands after exactly one space, and a line ends with its last field. Leading zeros are fine. A line that is empty, that
 // has too few or too many fields, or a field that is no number or too large, is malformed; so is one with any other letter.
+#![tactic(auto)]
+
 mod text;
 
 ghost use Rattle.std.specs.Prelude.{◌≡◌, ◌≤◌, length, drop};

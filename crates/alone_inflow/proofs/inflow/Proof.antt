@@ -7,22 +7,22 @@ use Rattle.alone_inflow.proofs.InflowLaws.{inflow-difference, volume}
 use Rattle.alone_inflow.proofs.inflow.Statement.{statement}
 use Rattle.alone_inflow.proofs.inflow.Tie as tie
 
-mul-gained : tie.Need-overflow-mul-gained
+mul-gained : tie.Need-overflow_mul-gained
 mul-gained c = omega (arith, volume c.args.area c.args.after c.requires.0 c.requires.2)
 
-add-gained : tie.Need-overflow-add-gained
+add-gained : tie.Need-overflow_add-gained
 add-gained c = omega (arith, volume c.args.area c.args.after c.requires.0 c.requires.2)
 
-mul-held : tie.Need-overflow-mul-held
+mul-held : tie.Need-overflow_mul-held
 mul-held c = omega (arith, volume c.args.area c.args.before c.requires.0 c.requires.1)
 
-cast-result : tie.Need-overflow-cast-result
+cast-result : tie.Need-overflow_cast-result
 cast-result c = omega (arith, volume c.args.area c.args.after c.requires.0 c.requires.2)
 
-cast-result-2 : tie.Need-overflow-cast-result-2
+cast-result-2 : tie.Need-overflow_cast-result-2
 cast-result-2 c = omega (arith, volume c.args.area c.args.before c.requires.0 c.requires.1)
 
-sub-result : tie.Need-overflow-sub-result
+sub-result : tie.Need-overflow_sub-result
 sub-result c =
     let a = c.args in
     difference-fits (a.area * a.after + a.pumped) (a.area * a.before) (omega (arith, volume a.area a.after c.requires.0 c.requires.2))
@@ -35,5 +35,5 @@ returns c =
     (omega (arith, volume a.area a.before c.requires.0 c.requires.1))
     ∙ sym (inflow-difference a.area a.before a.after a.pumped)
 
-pub inflow-spec : {M : Type 1} → statement M
-inflow-spec = tie.close (tie.spec mul-gained add-gained mul-held cast-result cast-result-2 sub-result returns)
+pub inflow_spec : {M : Type 1} → statement M
+inflow_spec = tie.close (tie.spec mul-gained add-gained mul-held cast-result cast-result-2 sub-result returns)

@@ -11,60 +11,60 @@ use Rattle.alone_inflow.proofs.kagutin_inflow.Tie as tie
 refused-requires : tie.Need-refused-requires
 refused-requires c κs = search rules
 
-returns : tie.Need-returns
+returns : tie.Need-returns-then-area-lt1
 returns c =
-    let a = c.before.before.args in
-    refusal c.refused.ensures ∙ sym (refused_none (given a.area a.low-before a.high-before a.low-after a.high_after a.low-pumped a.high-pumped) c.before.if1.true)
+    let a = c.args in
+    refusal c.refused.ensures ∙ sym (refused_none (given a.area a.low_before a.high_before a.low_after a.high_after a.low_pumped a.high_pumped) c.if-area-lt1.true)
 
-refused-requires-2 : tie.Need-refused-requires-2
+refused-requires-2 : tie.Need-refused-requires-then-area-gt1000000
 refused-requires-2 c κs = search rules
 
-returns-2 : tie.Need-returns-2
+returns-2 : tie.Need-returns-then-area-gt1000000
 returns-2 c =
-    let a = c.before.before.before.args in
-    refusal c.refused2.ensures ∙ sym (refused-large (given a.area a.low-before a.high-before a.low-after a.high_after a.low-pumped a.high-pumped) c.before.before.if1.false c.before.if2.true)
+    let a = c.args in
+    refusal c.refused-then-area-gt1000000.ensures ∙ sym (refused-large (given a.area a.low_before a.high_before a.low_after a.high_after a.low_pumped a.high_pumped) c.if-area-lt1.false c.if-area-gt1000000.true)
 
-refused-requires-3 : tie.Need-refused-requires-3
+refused-requires-3 : tie.Need-refused-requires-then-low_before-high_before
 refused-requires-3 c κs = search rules
 
-returns-3 : tie.Need-returns-3
+returns-3 : tie.Need-returns-then-low_before-high_before
 returns-3 c =
-    let a = c.before.before.before.before.args in
-    refusal c.refused3.ensures ∙ sym (refused-before (given a.area a.low-before a.high-before a.low-after a.high_after a.low-pumped a.high-pumped) c.before.before.before.if1.false c.before.before.if2.false c.before.if3.true)
+    let a = c.args in
+    refusal c.refused-then-low_before-high_before.ensures ∙ sym (refused-before (given a.area a.low_before a.high_before a.low_after a.high_after a.low_pumped a.high_pumped) c.if-area-lt1.false c.if-area-gt1000000.false c.if-low_before-high_before.true)
 
-refused-requires-4 : tie.Need-refused-requires-4
+refused-requires-4 : tie.Need-refused-requires-then-low_after-high_after
 refused-requires-4 c κs = search rules
 
-returns-4 : tie.Need-returns-4
+returns-4 : tie.Need-returns-then-low_after-high_after
 returns-4 c =
-    let a = c.before.before.before.before.before.args in
-    refusal c.refused4.ensures ∙ sym (refused-after (given a.area a.low-before a.high-before a.low-after a.high_after a.low-pumped a.high-pumped) c.before.before.before.before.if1.false c.before.before.before.if2.false c.before.before.if3.false c.before.if4.true)
+    let a = c.args in
+    refusal c.refused-then-low_after-high_after.ensures ∙ sym (refused-after (given a.area a.low_before a.high_before a.low_after a.high_after a.low_pumped a.high_pumped) c.if-area-lt1.false c.if-area-gt1000000.false c.if-low_before-high_before.false c.if-low_after-high_after.true)
 
-refused-requires-5 : tie.Need-refused-requires-5
+refused-requires-5 : tie.Need-refused-requires-then-low_pumped-high_pumped
 refused-requires-5 c κs = search rules
 
-returns-5 : tie.Need-returns-5
+returns-5 : tie.Need-returns-then-low_pumped-high_pumped
 returns-5 c =
-    let a = c.before.before.before.before.before.before.args in
-    refusal c.refused5.ensures ∙ sym (refused-pumped (given a.area a.low-before a.high-before a.low-after a.high_after a.low-pumped a.high-pumped) c.before.before.before.before.before.if1.false c.before.before.before.before.if2.false c.before.before.before.if3.false c.before.before.if4.false c.before.if5.true)
+    let a = c.args in
+    refusal c.refused-then-low_pumped-high_pumped.ensures ∙ sym (refused-pumped (given a.area a.low_before a.high_before a.low_after a.high_after a.low_pumped a.high_pumped) c.if-area-lt1.false c.if-area-gt1000000.false c.if-low_before-high_before.false c.if-low_after-high_after.false c.if-low_pumped-high_pumped.true)
 
-inflow-requires : tie.Need-inflow-requires
+inflow-requires : tie.Need-inflow-least-requires
 inflow-requires c κs = search rules
 
-inflow-requires-2 : tie.Need-inflow-requires-2
+inflow-requires-2 : tie.Need-inflow-most-requires
 inflow-requires-2 c κs = search rules
 
-returns-6 : tie.Need-returns-6
+returns-6 : tie.Need-returns
 returns-6 c =
-    let a = c.before.before.before.before.before.before.before.args in
-    let low = c.before.inflow in
-    let high = c.inflow2 in
-    completion (given a.area a.low-before a.high-before a.low-after a.high_after a.low-pumped a.high-pumped)
-    (to_z-of_z w64 low.result (record { sfits = low.type-inv }) ∙ low.ensures) (to_z-of_z w64 high.result (record { sfits = high.type-inv }) ∙ high.ensures)
-    (done-inflow (given a.area a.low-before a.high-before a.low-after a.high_after a.low-pumped a.high-pumped) c.before.before.before.before.before.before.if1.false c.before.before.before.before.before.if2.false c.before.before.before.before.if3.false c.before.before.before.if4.false c.before.before.if5.false)
+    let a = c.args in
+    let low = c.inflow-least in
+    let high = c.inflow-most in
+    completion (given a.area a.low_before a.high_before a.low_after a.high_after a.low_pumped a.high_pumped)
+    (to_z-of_z w64 low.result (record { sfits = low.type_inv }) ∙ low.ensures) (to_z-of_z w64 high.result (record { sfits = high.type_inv }) ∙ high.ensures)
+    (done-inflow (given a.area a.low_before a.high_before a.low_after a.high_after a.low_pumped a.high_pumped) c.if-area-lt1.false c.if-area-gt1000000.false c.if-low_before-high_before.false c.if-low_after-high_after.false c.if-low_pumped-high_pumped.false)
 
-pub kagutin-inflow-spec : {M : Type 1} → statement M
-kagutin-inflow-spec =
+pub kagutin_inflow_spec : {M : Type 1} → statement M
+kagutin_inflow_spec =
     tie.close
     (tie.spec
     refused-requires

@@ -5,100 +5,73 @@ use Rattle.prog_lines.proofs.LineLaws.{store-short, store_two, store-writer, sto
 use Rattle.prog_lines.proofs.of_store.Statement.{statement}
 use Rattle.prog_lines.proofs.of_store.Tie as tie
 
-until-requires : tie.Need-until-requires
+until-requires : tie.Need-until-first-requires
 until-requires c κs = search rules
 
-returns : tie.Need-returns
+returns : tie.Need-returns-then-first-line
 returns c =
-    let a = c.before.before.before.args in
-    store-short a.line.now _ (omega arith) c.before.until.ensures.0 c.if1.true
+    let a = c.args in
+    store-short a.line.now _ (omega arith) c.until-first.ensures.0 c.if-first-line.true
 
-add-until : tie.Need-overflow-add-until
+add-until : tie.Need-overflow_add-first
 add-until c = search rules
 
-until-requires-2 : tie.Need-until-requires-2
+until-requires-2 : tie.Need-until-second-requires
 until-requires-2 c κs = search rules
 
-returns-2 : tie.Need-returns-2
+returns-2 : tie.Need-returns-then-second-line
 returns-2 c =
-    let e1 = c.before.before in
-    let u1 = e1.before in
-    let a = u1.before.before.args in
-    store_two a.line.now u1.until.result (omega arith) u1.until.ensures.0 c.before.until2.result e1.if1.false u1.until.ensures.2
-    c.before.until2.ensures.0 c.if2.true
+    let a = c.args in
+    store_two a.line.now c.until-first.result (omega arith) c.until-first.ensures.0 c.until-second.result c.if-first-line.false c.until-first.ensures.2
+    c.until-second.ensures.0 c.if-second-line.true
 
-number-requires : tie.Need-number-requires
+number-requires : tie.Need-number-writer-requires
 number-requires c κs = search rules
 
-returns-3 : tie.Need-returns-3
+returns-3 : tie.Need-returns-then-writer-gt65535
 returns-3 c =
-    let n1 = c.before in
-    let e2 = n1.before in
-    let u2 = e2.before in
-    let e1 = u2.before in
-    let u1 = e1.before in
-    let a = u1.before.before.args in
-    store-writer a.line.now u1.until.result (omega arith) u1.until.ensures.0 u2.until2.result e1.if1.false u1.until.ensures.2
-    u2.until2.ensures.0 e2.if2.false u2.until2.ensures.2 n1.number.result n1.number.ensures.0 c.if3.true
+    let a = c.args in
+    store-writer a.line.now c.until-first.result (omega arith) c.until-first.ensures.0 c.until-second.result c.if-first-line.false c.until-first.ensures.2
+    c.until-second.ensures.0 c.if-second-line.false c.until-second.ensures.2 c.number-writer.result c.number-writer.ensures.0 c.if-writer-gt65535.true
 
-add-number : tie.Need-overflow-add-number
+add-number : tie.Need-overflow_add-first-2
 add-number c = search rules
 
-number-requires-2 : tie.Need-number-requires-2
+number-requires-2 : tie.Need-number-home-requires
 number-requires-2 c κs = search rules
 
-returns-4 : tie.Need-returns-4
+returns-4 : tie.Need-returns-then-home-gt65535
 returns-4 c =
-    let n2 = c.before in
-    let n1 = n2.before.before in
-    let e2 = n1.before in
-    let u2 = e2.before in
-    let e1 = u2.before in
-    let u1 = e1.before in
-    let a = u1.before.before.args in
-    store-home a.line.now u1.until.result (omega arith) u1.until.ensures.0 u2.until2.result e1.if1.false u1.until.ensures.2
-    u2.until2.ensures.0 e2.if2.false u2.until2.ensures.2 n1.number.result n1.number.ensures.0 (omega arith) n2.number2.result
-    n2.number2.ensures.0 c.if4.true
+    let a = c.args in
+    store-home a.line.now c.until-first.result (omega arith) c.until-first.ensures.0 c.until-second.result c.if-first-line.false c.until-first.ensures.2
+    c.until-second.ensures.0 c.if-second-line.false c.until-second.ensures.2 c.number-writer.result c.number-writer.ensures.0 (omega arith) c.number-home.result
+    c.number-home.ensures.0 c.if-home-gt65535.true
 
-add-number-2 : tie.Need-overflow-add-number-2
+add-number-2 : tie.Need-overflow_add-second
 add-number-2 c = search rules
 
-number-requires-3 : tie.Need-number-requires-3
+number-requires-3 : tie.Need-number-fill-requires
 number-requires-3 c κs = search rules
 
-returns-5 : tie.Need-returns-5
+returns-5 : tie.Need-returns-then-fill-gt255
 returns-5 c =
-    let n3 = c.before in
-    let n2 = n3.before.before in
-    let n1 = n2.before.before in
-    let e2 = n1.before in
-    let u2 = e2.before in
-    let e1 = u2.before in
-    let u1 = e1.before in
-    let a = u1.before.before.args in
-    store_byte a.line.now u1.until.result (omega arith) u1.until.ensures.0 u2.until2.result e1.if1.false u1.until.ensures.2
-    u2.until2.ensures.0 e2.if2.false u2.until2.ensures.2 n1.number.result n1.number.ensures.0 (omega arith) n2.number2.result
-    n2.number2.ensures.0 (omega arith) n3.number3.result n3.number3.ensures.0 c.if5.true
+    let a = c.args in
+    store_byte a.line.now c.until-first.result (omega arith) c.until-first.ensures.0 c.until-second.result c.if-first-line.false c.until-first.ensures.2
+    c.until-second.ensures.0 c.if-second-line.false c.until-second.ensures.2 c.number-writer.result c.number-writer.ensures.0 (omega arith) c.number-home.result
+    c.number-home.ensures.0 (omega arith) c.number-fill.result c.number-fill.ensures.0 c.if-fill-gt255.true
 
-cast-t10 : tie.Need-overflow-cast-t10
+cast-t10 : tie.Need-overflow_cast-result
 cast-t10 c = search rules
 
-returns-6 : tie.Need-returns-6
+returns-6 : tie.Need-returns
 returns-6 c =
-    let n3 = c.before in
-    let n2 = n3.before.before in
-    let n1 = n2.before.before in
-    let e2 = n1.before in
-    let u2 = e2.before in
-    let e1 = u2.before in
-    let u1 = e1.before in
-    let a = u1.before.before.args in
-    store-right a.line.now u1.until.result (omega arith) u1.until.ensures.0 u2.until2.result e1.if1.false u1.until.ensures.2
-    u2.until2.ensures.0 e2.if2.false u2.until2.ensures.2 n1.number.result n1.number.ensures.0 (omega arith) n2.number2.result
-    n2.number2.ensures.0 (omega arith) n3.number3.result n3.number3.ensures.0 (omega arith)
+    let a = c.args in
+    store-right a.line.now c.until-first.result (omega arith) c.until-first.ensures.0 c.until-second.result c.if-first-line.false c.until-first.ensures.2
+    c.until-second.ensures.0 c.if-second-line.false c.until-second.ensures.2 c.number-writer.result c.number-writer.ensures.0 (omega arith) c.number-home.result
+    c.number-home.ensures.0 (omega arith) c.number-fill.result c.number-fill.ensures.0 (omega arith)
 
-pub of-store-spec : {M : Type 1} → statement M
-of-store-spec =
+pub of_store_spec : {M : Type 1} → statement M
+of_store_spec =
     tie.close
     (tie.spec
     until-requires

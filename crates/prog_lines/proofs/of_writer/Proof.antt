@@ -5,23 +5,23 @@ use Rattle.prog_lines.proofs.LineLaws.{writer-large, writer-begins, writer-commi
 use Rattle.prog_lines.proofs.of_writer.Statement.{statement}
 use Rattle.prog_lines.proofs.of_writer.Tie as tie
 
-number-requires : tie.Need-number-requires
+number-requires : tie.Need-number-writer-requires
 number-requires c κs = search rules
 
-returns : tie.Need-returns
+returns : tie.Need-returns-then-writer-gt65535
 returns c =
-    let a = c.before.before.before.args in
-    writer-large a.line.now _ _ (omega arith) c.before.number.ensures.0 c.if1.true
+    let a = c.args in
+    writer-large a.line.now _ _ (omega arith) c.number-writer.ensures.0 c.if-writer-gt65535.true
 
-returns-2 : tie.Need-returns-2
+returns-2 : tie.Need-returns-then-letter-eq98
 returns-2 c =
-    let a = c.before.before.before.before.args in
-    writer-begins a.line.now a.letter _ (omega arith) c.before.before.number.ensures.0 (omega arith) c.if2.true
+    let a = c.args in
+    writer-begins a.line.now a.letter _ (omega arith) c.number-writer.ensures.0 (omega arith) c.if-letter-eq98.true
 
-returns-3 : tie.Need-returns-3
+returns-3 : tie.Need-returns
 returns-3 c =
-    let a = c.before.before.before.before.args in
-    writer-commits a.line.now a.letter _ (omega arith) c.before.before.number.ensures.0 (omega arith) c.if2.false
+    let a = c.args in
+    writer-commits a.line.now a.letter _ (omega arith) c.number-writer.ensures.0 (omega arith) c.if-letter-eq98.false
 
-pub of-writer-spec : {M : Type 1} → statement M
-of-writer-spec = tie.close (tie.spec number-requires returns returns-2 returns-3)
+pub of_writer_spec : {M : Type 1} → statement M
+of_writer_spec = tie.close (tie.spec number-requires returns returns-2 returns-3)

@@ -6,57 +6,57 @@ use Rattle.prog_lines.proofs.LineLaws.{line-empty, line-bare, line-unspaced, lin
 use Rattle.prog_lines.proofs.parse.Statement.{statement}
 use Rattle.prog_lines.proofs.parse.Tie as tie
 
-returns : tie.Need-returns
-returns c = line-empty _ c.if1.true
+returns : tie.Need-returns-then-line-eq0
+returns c = line-empty _ c.if-line-eq0.true
 
-shared-slice-read-letter : tie.Need-shared-slice-read-letter
+shared-slice-read-letter : tie.Need-bounds-line-0
 shared-slice-read-letter c = search rules
 
 bare-requires : tie.Need-bare-requires
 bare-requires c κs = search rules
 
-returns-2 : tie.Need-returns-2
-returns-2 c = c.bare.ensures ∙ line-bare _ c.before.if2.true
+returns-2 : tie.Need-returns-then-line-eq1
+returns-2 c = c.bare.ensures ∙ line-bare _ c.if-line-eq1.true
 
-shared-slice-read-if3 : tie.Need-shared-slice-read-if3
+shared-slice-read-if3 : tie.Need-bounds-line-1
 shared-slice-read-if3 c = search rules
 
-returns-3 : tie.Need-returns-3
+returns-3 : tie.Need-returns-then-line-ne32
 returns-3 c =
-    let a = c.before.before.before.before.before.before.args in
-    line-unspaced a.line.now (omega arith) c.if3.true
+    let a = c.args in
+    line-unspaced a.line.now (omega arith) c.if-line-ne32.true
 
-of-writer-requires : tie.Need-of-writer-requires
+of-writer-requires : tie.Need-of_writer-requires
 of-writer-requires c κs = search rules
 
-of-writer-requires-2 : tie.Need-of-writer-requires-2
+of-writer-requires-2 : tie.Need-of_writer-requires-in-99
 of-writer-requires-2 c κs = search rules
 
-of-store-requires : tie.Need-of-store-requires
+of-store-requires : tie.Need-of_store-requires
 of-store-requires c κs = search rules
 
-returns-4 : tie.Need-returns-4
+returns-4 : tie.Need-returns-in-98
 returns-4 c =
-    let a = c.before.before.before.before.before.before.before.before.args in
-    c.of-writer.ensures ∙ line-begin a.line.now (omega arith) c.before.before.if3.false c.before.match.keys1
+    let a = c.args in
+    c.of_writer.ensures ∙ line-begin a.line.now (omega arith) c.if-line-ne32.false c.in-98.is
 
-returns-5 : tie.Need-returns-5
+returns-5 : tie.Need-returns-in-99
 returns-5 c =
-    let a = c.before.before.before.before.before.before.before.before.args in
-    c.of-writer2.ensures ∙ line-commit a.line.now (omega arith) c.before.before.if3.false c.before.match.keys2
+    let a = c.args in
+    c.of_writer-in-99.ensures ∙ line-commit a.line.now (omega arith) c.if-line-ne32.false c.in-99.is
 
-returns-6 : tie.Need-returns-6
+returns-6 : tie.Need-returns-in-115
 returns-6 c =
-    let a = c.before.before.before.before.before.before.before.before.args in
-    c.of-store.ensures ∙ line_store a.line.now (omega arith) c.before.before.if3.false c.before.match.keys3
+    let a = c.args in
+    c.of_store.ensures ∙ line_store a.line.now (omega arith) c.if-line-ne32.false c.in-115.is
 
-returns-7 : tie.Need-returns-7
+returns-7 : tie.Need-returns-in_default
 returns-7 c =
-    let a = c.before.before.before.before.before.before.before.args in
-    line_other a.line.now (omega arith) c.before.if3.false c.match.rest.0.0.1 c.match.rest.0.1 c.match.rest.1
+    let a = c.args in
+    line_other a.line.now (omega arith) c.if-line-ne32.false c.in_default.in_default-own.rest.0.0.1 c.in_default.in_default-own.rest.0.1 c.in_default.in_default-own.rest.1
 
-pub parse-spec : {M : Type 1} → statement M
-parse-spec =
+pub parse_spec : {M : Type 1} → statement M
+parse_spec =
     tie.close
     (tie.spec
     returns

@@ -5,13 +5,13 @@ use Rattle.alone_gauges.specs.Report.{hit}
 use Rattle.alone_gauges.proofs.merge.hit.Statement.{statement}
 use Rattle.alone_gauges.proofs.merge.hit.Tie as tie
 
-returns : tie.Need-returns
+returns : tie.Need-returns-then-kind-wanted
 unfolding hit
-returns c = sym (rw (eq-eqb _ _ c.if1.true))
+returns c = sym (rw (eq-eqb _ _ c.if-kind-wanted.true))
 
-returns-2 : tie.Need-returns-2
+returns-2 : tie.Need-returns-else-kind-wanted
 unfolding hit
-returns-2 c = sym (rw (ne_eqb _ _ c.if1.false))
+returns-2 c = sym (rw (ne_eqb _ _ c.if-kind-wanted.false))
 
-pub hit-spec : {M : Type 1} → statement M
-hit-spec = tie.close (tie.spec returns returns-2)
+pub hit_spec : {M : Type 1} → statement M
+hit_spec = tie.close (tie.spec returns returns-2)

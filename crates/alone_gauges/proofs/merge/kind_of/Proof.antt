@@ -17,16 +17,16 @@ differ : (tolerance a b : ℕ) → tolerance < difference a b → 2 ≡ kind_of 
 unfolding kind_of
 differ tolerance a b h = rw (lt-leb (difference a b) tolerance h)
 
-sub-difference : tie.Need-overflow-sub-difference
+sub-difference : tie.Need-overflow_sub-difference
 sub-difference c = search rules
 
-returns : tie.Need-returns
+returns : tie.Need-returns-then-difference-tolerance
 unfolding difference
-returns c = agree _ _ _ (⊎_elim (λ w. omega arith) (λ w. omega arith) c.before.if1.branch)
+returns c = agree _ _ _ (⊎_elim (λ w. omega arith) (λ w. omega arith) c.if-a-b.branch-raw)
 
-returns-2 : tie.Need-returns-2
+returns-2 : tie.Need-returns-else-difference-tolerance
 unfolding difference
-returns-2 c = differ _ _ _ (⊎_elim (λ w. omega arith) (λ w. omega arith) c.before.if1.branch)
+returns-2 c = differ _ _ _ (⊎_elim (λ w. omega arith) (λ w. omega arith) c.if-a-b.branch-raw)
 
-pub kind-of-spec : {M : Type 1} → statement M
-kind-of-spec = tie.close (tie.spec sub-difference returns returns-2)
+pub kind_of_spec : {M : Type 1} → statement M
+kind_of_spec = tie.close (tie.spec sub-difference returns returns-2)

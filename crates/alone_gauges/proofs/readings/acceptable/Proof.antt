@@ -5,20 +5,20 @@ use Rattle.alone_gauges.proofs.ReadingLaws.{acceptable-parted, acceptable-long, 
 use Rattle.alone_gauges.proofs.readings.acceptable.Statement.{statement}
 use Rattle.alone_gauges.proofs.readings.acceptable.Tie as tie
 
-returns : tie.Need-returns
-returns c = sym (acceptable-parted _ c.if1.true)
+returns : tie.Need-returns-then-s-ne0
+returns c = sym (acceptable-parted _ c.if-s-ne0.true)
 
-mul-if2 : tie.Need-overflow-mul-if2
+mul-if2 : tie.Need-overflow_mul-t-3
 mul-if2 c = search rules
 
-returns-2 : tie.Need-returns-2
-returns-2 c = sym (acceptable-long _ c.before.if1.false c.if2.true)
+returns-2 : tie.Need-returns-then-s
+returns-2 c = sym (acceptable-long _ c.if-s-ne0.false c.if-s.true)
 
 rises-requires : tie.Need-rises-requires
 rises-requires c κs = search rules
 
-returns-3 : tie.Need-returns-3
-returns-3 c = c.rises.ensures ∙ sym (acceptable-rest _ c.before.before.if1.false c.before.if2.false)
+returns-3 : tie.Need-returns
+returns-3 c = c.rises.ensures ∙ sym (acceptable-rest _ c.if-s-ne0.false c.if-s.false)
 
-pub acceptable-spec : {M : Type 1} → statement M
-acceptable-spec = tie.close (tie.spec returns mul-if2 returns-2 rises-requires returns-3)
+pub acceptable_spec : {M : Type 1} → statement M
+acceptable_spec = tie.close (tie.spec returns mul-if2 returns-2 rises-requires returns-3)

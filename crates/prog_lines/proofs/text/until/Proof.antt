@@ -9,41 +9,41 @@ use Rattle.prog_lines.proofs.TextLaws.{index-here, index_on, index-end}
 use Rattle.prog_lines.proofs.text.until.Statement.{statement}
 use Rattle.prog_lines.proofs.text.until.Tie as tie
 
-abbrev invariant-loop : tie.invariant-loop
+abbrev invariant-loop : tie.invariant-loop-i
 invariant-loop text from stop i₀ i = (i + index_of stop (drop i text) ≡ from + index_of stop (drop from text)) × (from ≤ i) × (i ≤ length text)
 
-abbrev decreases-loop : tie.decreases-loop
+abbrev decreases-loop : tie.decreases-loop-i
 decreases-loop text from stop i₀ i = length text - i
 
-loop-holds : tie.Need-loop-init invariant-loop decreases-loop
+loop-holds : tie.Need-loop-i-init invariant-loop decreases-loop
 loop-holds c = (refl, omega arith, omega arith)
 
-shared-slice-read-if1 : tie.Need-shared-slice-read-if1 invariant-loop decreases-loop
+shared-slice-read-if1 : tie.Need-bounds-text-i invariant-loop decreases-loop
 shared-slice-read-if1 c = search rules
 
-returns : tie.Need-returns invariant-loop decreases-loop
+returns : tie.Need-returns-then-text-i invariant-loop decreases-loop
 returns c =
-    let l = c.before.before.before.loop in
-    (sym (index-here _ _ _ (omega arith) c.if1.true) ∙ l.invariant.0, omega arith, omega arith)
+    let l = c.loop-i in
+    (sym (index-here _ _ _ (omega arith) c.if-text-i.true) ∙ l.invariant.0, omega arith, omega arith)
 
-add-i : tie.Need-overflow-add-i invariant-loop decreases-loop
+add-i : tie.Need-overflow_add-i invariant-loop decreases-loop
 add-i c = search rules
 
-loop-less : tie.Need-loop-smaller invariant-loop decreases-loop
+loop-less : tie.Need-loop-i-smaller invariant-loop decreases-loop
 loop-less c = search rules
 
-loop-again : tie.Need-loop-preserved invariant-loop decreases-loop
+loop-again : tie.Need-loop-i-preserved invariant-loop decreases-loop
 loop-again c =
-    let l = c.before.before.before.loop in
-    (sym (index_on _ _ _ (omega arith) c.if1.false) ∙ l.invariant.0, omega arith, omega arith)
+    let l = c.loop-i in
+    (sym (index_on _ _ _ (omega arith) c.if-text-i.false) ∙ l.invariant.0, omega arith, omega arith)
 
-returns-2 : tie.Need-returns-2 invariant-loop decreases-loop
+returns-2 : tie.Need-returns invariant-loop decreases-loop
 returns-2 c =
-    let l = c.before.loop in
+    let l = c.loop-i in
     (sym (index-end _ _ _ (omega arith)) ∙ l.invariant.0, omega arith, omega arith)
 
-pub until-spec : {M : Type 1} → statement M
-until-spec =
+pub until_spec : {M : Type 1} → statement M
+until_spec =
     tie.close
     (tie.spec
     invariant-loop
