@@ -143,6 +143,8 @@ module _ (Kept : World → Store → Type 0) (faithful : (w : World) (s : Store)
       → DeniedThroughout writer hidden s w (calls cs) → ToldSameThroughout writer w v cs ds
   unfolding calls
   told-kept hidden writer [] [] w v s t k m ok ok' w-ready v-ready a both d = tt
+  told-kept hidden writer [] (e ∷ ds) w v s t k m ok ok' w-ready v-ready a unequal d = elim unequal [ ]
+  told-kept hidden writer (c ∷ cs) [] w v s t k m ok ok' w-ready v-ready a unequal d = elim unequal [ ]
   told-kept hidden writer (c ∷ cs) (e ∷ ds) w v s t k m ok ok' w-ready v-ready a (more x xs) d =
       let shows : ListShown hidden = list-shows hidden writer s d.0 in
       let r : Faithful w s = faithful w s k in

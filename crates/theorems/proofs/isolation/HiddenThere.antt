@@ -52,6 +52,8 @@ pub alike-along : (hidden : ℕ → Bool) (cs ds : List Call) (w v : World) (s t
     → StoreAlike hidden s t → StoreAlike hidden (followed s w (calls cs)) (followed t v (calls ds))
 unfolding calls followed no_opening
 alike-along hidden [] [] w v s t n q both a = a
+alike-along hidden [] (e ∷ ds) w v s t n q unequal a = elim unequal [ ]
+alike-along hidden (c ∷ cs) [] w v s t n q unequal a = elim unequal [ ]
 alike-along hidden (c ∷ cs) (e ∷ ds) w v s t n q (more k ks) a =
     let m = none_first (is_opening c) (no_opening cs) n in
     alike-along hidden cs ds (step w (call c)) (step v (call e)) (follow s w (call c)) (follow t v (call e)) m.1 q.1 ks

@@ -147,6 +147,8 @@ module _ (hidden : ℕ → Bool) (writer : ℕ) where
       → v.ready ≡ true → StoreAlike hidden s t → Each (ActAlike hidden) xs ys → DeniedThroughout writer hidden s w (expand_all w xs)
       → SameThroughout writer w v xs ys
   same-throughout [] [] w v s t r q ok ok' w-ready v-ready a both d = tt
+  same-throughout [] (y ∷ ys) w v s t r q ok ok' w-ready v-ready a unequal d = elim unequal [ ]
+  same-throughout (x ∷ xs) [] w v s t r q ok ok' w-ready v-ready a unequal d = elim unequal [ ]
   same-throughout (x ∷ xs) (y ∷ ys) w v s t r q ok ok' w-ready v-ready a (more k ks) d =
       let es : List Event = expand w x in
       let rest : List Event = expand_all (act w x) xs in
@@ -185,6 +187,8 @@ module _ (hidden : ℕ → Bool) (shows : ListShown hidden) where
       → Beside hidden w v s t → Beside hidden (acted w xs) (acted v ys) (followed s w (expand_all w xs)) (followed t v (expand_all v ys))
   unfolding acted expand_all
   acts-next [] [] w v s t ok ok' both b = unfold followed in b
+  acts-next [] (y ∷ ys) w v s t ok ok' unequal b = elim unequal [ ]
+  acts-next (x ∷ xs) [] w v s t ok ok' unequal b = elim unequal [ ]
   acts-next (x ∷ xs) (y ∷ ys) w v s t ok ok' (more k ks) b =
       let rest = acts-next xs ys (act w x) (act v y) (followed s w (expand w x)) (followed t v (expand v y)) ok.1 ok'.1 ks (act-beside w v s t ok.0 ok'.0 k b) in
       subst (λ (u : Store). Beside hidden (acted (act w x) xs) (acted (act v y) ys) u (followed t v (expand v y ++ expand_all (act v y) ys)))
@@ -236,6 +240,8 @@ module _ (hidden : ℕ → Bool) (shows : ListShown hidden) where
       → Each (ActAlike hidden) xs ys → Near hidden w v s t → Near hidden (acted w xs) (acted v ys) (followed s w (expand_all w xs)) (followed t v (expand_all v ys))
   unfolding acted expand_all
   acts-near [] [] w v s t r q ok ok' both n = unfold followed in n
+  acts-near [] (y ∷ ys) w v s t r q ok ok' unequal n = elim unequal [ ]
+  acts-near (x ∷ xs) [] w v s t r q ok ok' unequal n = elim unequal [ ]
   acts-near (x ∷ xs) (y ∷ ys) w v s t r q ok ok' (more k ks) n =
       rw (followed-act w s x (expand_all (act w x) xs) r ok.0, followed-act v t y (expand_all (act v y) ys) q ok'.0)
       (acts-near xs ys (act w x) (act v y) (followed s w (expand w x)) (followed t v (expand v y)) (reached-act w s x r ok.0) (reached-act v t y q ok'.0)

@@ -333,12 +333,14 @@ module _ (G D : ℕ) (z : Sizes G D) (granted : ℕ → ℕ) (w : World) (r : Ru
   service-agrees c h = go c h (frame shares (service c))
     where
       go : (c : Service) → (ends w (service c)).code ≡ 0 → Touch shares (service c) ⊎ Spares shares (service c) → Agree granted (ends w (service c)).state tasks
+      go c h (inl touched) = elim touched [ ]
       go c h (inr f) = spared (service c) h f
 
   confirm-agrees : (ends w confirm).code ≡ 0 → Agree granted (ends w confirm).state tasks
   confirm-agrees h = go (frame shares confirm)
     where
       go : Touch shares confirm ⊎ Spares shares confirm → Agree granted (ends w confirm).state tasks
+      go (inl touched) = elim touched [ ]
       go (inr f) = spared confirm h f
 
   pub call-agrees : (c : Call) → is_opening c ≡ false → (ends w c).code ≡ 0

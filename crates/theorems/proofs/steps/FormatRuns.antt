@@ -301,8 +301,8 @@ module _ (G D : ℕ) where
   unfolding persist_chosen is_fence pieces write_chosen many group_offset
   unmarked-chosen chosen i [] m n u = u
   unmarked-chosen chosen i (GW slot group ∷ rs) m n u =
-      unmarked-chosen chosen _ rs _ n (unmarked-blocks chosen i (group_offset slot) group 8 m (omega arith) u)
-  unmarked-chosen chosen i (HW home block ∷ rs) m n u = unmarked-chosen chosen _ rs _ n (unmarked-area (chosen i) m (64 * home) block u)
+      unmarked-chosen chosen (i + many (pieces (GW slot group))) rs _ n (unmarked-blocks chosen i (group_offset slot) group 8 m (omega arith) u)
+  unmarked-chosen chosen i (HW home block ∷ rs) m n u = unmarked-chosen chosen (i + many (pieces (HW home block))) rs _ n (unmarked-area (chosen i) m (64 * home) block u)
   unmarked-chosen chosen i (KW header ∷ rs) m n u = absurd n
   unmarked-chosen chosen i (FN ∷ rs) m n u = u
 
