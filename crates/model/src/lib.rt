@@ -12,7 +12,7 @@ pub enum Tag {
 }
 
 // The numbers of the state strip, but for those of the writers.
-#[derive(Drop)]
+#[derive(Clone, Copy)]
 pub struct State {
     pub groups: u64,
     pub homes: u64,
@@ -33,7 +33,7 @@ pub struct State {
 }
 
 // A writer's record, but for the held block.
-#[derive(Drop)]
+#[derive(Clone, Copy)]
 pub struct Writer {
     // 0 idle; 1 open, holding nothing; 2 holding a block, nothing logged; 3 holding a block, entries logged
     pub mode: u64,
@@ -59,7 +59,7 @@ pub struct Usage {
 }
 
 // The writer that holds a log back and the position from which on, 8 and 0 for none.
-#[derive(Drop)]
+#[derive(Clone, Copy)]
 pub struct Holder {
     pub writer: u64,
     pub first: u64,
