@@ -1,5 +1,5 @@
 -- Question 2 as plain facts: the group numbers and the places filled are in order, so no position passes 64 bits, and then the other numbers.
-use Rattle.std.specs.Prelude.{◌≡◌, ℕ, ◌+◌, ◌-◌, ◌*◌, ◌^◌, ◌≤◌, ◌<◌, Bool, ◌&&◌, ◌||◌, eqb, leb, ltb}
+use Rattle.std.specs.Prelude.{◌≡◌, ℕ, ◌+◌, ◌-◌, ◌*◌, ◌^◌, ◌≤◌, Bool, ◌&&◌, ◌||◌, eqb, leb, ltb}
 use Rattle.model.specs.declared.State.{State}
 use Rattle.model.specs.State.{next_position}
 

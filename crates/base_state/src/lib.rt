@@ -1,5 +1,7 @@
 // The state strip of 1,024 bytes as model/specs/State defines it: its numbers, its writers' records, held blocks and promises, and the
 // positions and the sign of the list of rights.
+#![tactic(auto)]
+
 mod fields;
 mod listed;
 mod promises;

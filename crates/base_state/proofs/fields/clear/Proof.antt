@@ -10,11 +10,11 @@ use Rattle.base_state.proofs.fields.clear.Tie as tie
 clear-requires : tie.Need-clear-requires
 clear-requires c κs = search rules
 
-same_length : tie.Need-same-length
+same_length : tie.Need-shape_of-s
 same_length c = search rules
 
 returns : tie.Need-returns
-returns c = c.before.before.clear.ensures ∙ puts_whole _ (zeros 1024) (simp length-zeros (omega arith))
+returns c = c.clear.ensures ∙ puts_whole _ (zeros 1024) (simp length-zeros (omega arith))
 
 pub clear_spec : {M : Type 1} → statement M
 clear_spec = tie.close (tie.spec clear-requires same_length returns)

@@ -11,5 +11,5 @@ returns : tie.Need-returns
 unfolding state_of
 returns c = c.number.ensures
 
-pub durable-spec : {M : Type 1} → statement M
-durable-spec = tie.close (tie.spec number-requires returns)
+pub durable_spec : {M : Type 1} → statement M
+durable_spec = tie.close (tie.spec number-requires returns)

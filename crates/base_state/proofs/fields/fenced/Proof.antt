@@ -11,5 +11,5 @@ returns : tie.Need-returns
 unfolding state_of
 returns c = c.number.ensures
 
-pub fenced-spec : {M : Type 1} → statement M
-fenced-spec = tie.close (tie.spec number-requires returns)
+pub fenced_spec : {M : Type 1} → statement M
+fenced_spec = tie.close (tie.spec number-requires returns)

@@ -11,5 +11,5 @@ returns : tie.Need-returns
 unfolding state_of
 returns c = c.number.ensures
 
-pub filled-spec : {M : Type 1} → statement M
-filled-spec = tie.close (tie.spec number-requires returns)
+pub filled_spec : {M : Type 1} → statement M
+filled_spec = tie.close (tie.spec number-requires returns)

@@ -7,57 +7,49 @@ use Rattle.base_state.proofs.fields.fresh_numbers.Tie as tie
 clear-requires : tie.Need-clear-requires
 clear-requires c κs = search rules
 
-set-groups-requires : tie.Need-set-groups-requires
+set-groups-requires : tie.Need-set_groups-requires
 set-groups-requires c κs = search rules
 
-set-homes-requires : tie.Need-set-homes-requires
+set-homes-requires : tie.Need-set_homes-requires
 set-homes-requires c κs = search rules
 
-set-start-requires : tie.Need-set-start-requires
+set-start-requires : tie.Need-set_start-requires
 set-start-requires c κs = search rules
 
-set-next-requires : tie.Need-set-next-requires
+set-next-requires : tie.Need-set_next-requires
 set-next-requires c κs = search rules
 
-mul-position : tie.Need-overflow-mul-position
+mul-position : tie.Need-overflow_mul-position
 mul-position c = search rules
 
-set-settled-requires : tie.Need-set-settled-requires
+set-settled-requires : tie.Need-set_settled-requires
 set-settled-requires c κs = search rules
 
-set-fenced-requires : tie.Need-set-fenced-requires
+set-fenced-requires : tie.Need-set_fenced-requires
 set-fenced-requires c κs = search rules
 
-set-durable-requires : tie.Need-set-durable-requires
+set-durable-requires : tie.Need-set_durable-requires
 set-durable-requires c κs = search rules
 
-same_length : tie.Need-same-length
+same_length : tie.Need-shape_of-s
 same_length c = search rules
 
 returns : tie.Need-returns
 unfolding fresh_numbers
 returns c =
-    let c7 = c.before.before in
-    let c6 = c7.before.before.before.before in
-    let c5 = c6.before.before.before.before in
-    let c4 = c5.before.before.before.before in
-    let c3 = c4.before.before.before.before in
-    let c2 = c3.before.before.before.before in
-    let c1 = c2.before.before.before.before in
-    let c0 = c1.before.before.before.before in
     rw (
-      c7.set-durable.ensures,
-      c6.set-fenced.ensures,
-      c5.set-settled.ensures,
-      c4.set_next.ensures,
-      c3.set-start.ensures,
-      c2.set-homes.ensures,
-      c1.set-groups.ensures,
-      c0.clear.ensures,
+      c.set_durable.ensures,
+      c.set_fenced.ensures,
+      c.set_settled.ensures,
+      c.set_next.ensures,
+      c.set_start.ensures,
+      c.set_homes.ensures,
+      c.set_groups.ensures,
+      c.clear.ensures,
     )
 
-pub fresh-numbers-spec : {M : Type 1} → statement M
-fresh-numbers-spec =
+pub fresh_numbers_spec : {M : Type 1} → statement M
+fresh_numbers_spec =
     tie.close
     (tie.spec
     clear-requires

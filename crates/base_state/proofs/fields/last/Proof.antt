@@ -11,5 +11,5 @@ returns : tie.Need-returns
 unfolding state_of
 returns c = c.number.ensures
 
-pub last-spec : {M : Type 1} → statement M
-last-spec = tie.close (tie.spec number-requires returns)
+pub last_spec : {M : Type 1} → statement M
+last_spec = tie.close (tie.spec number-requires returns)

@@ -11,5 +11,5 @@ returns : tie.Need-returns
 unfolding state_of
 returns c = c.number.ensures
 
-pub next-spec : {M : Type 1} → statement M
-next-spec = tie.close (tie.spec number-requires returns)
+pub next_spec : {M : Type 1} → statement M
+next_spec = tie.close (tie.spec number-requires returns)

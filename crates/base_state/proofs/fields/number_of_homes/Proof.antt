@@ -11,5 +11,5 @@ returns : tie.Need-returns
 unfolding state_of
 returns c = c.number.ensures
 
-pub number-of-homes-spec : {M : Type 1} → statement M
-number-of-homes-spec = tie.close (tie.spec number-requires returns)
+pub number_of_homes_spec : {M : Type 1} → statement M
+number_of_homes_spec = tie.close (tie.spec number-requires returns)

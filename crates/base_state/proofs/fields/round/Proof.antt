@@ -11,5 +11,5 @@ returns : tie.Need-returns
 unfolding state_of
 returns c = c.number.ensures
 
-pub round-spec : {M : Type 1} → statement M
-round-spec = tie.close (tie.spec number-requires returns)
+pub round_spec : {M : Type 1} → statement M
+round_spec = tie.close (tie.spec number-requires returns)

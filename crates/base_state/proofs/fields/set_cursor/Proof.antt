@@ -4,15 +4,15 @@ use Rattle.model.specs.State.{set_cursor}
 use Rattle.base_state.proofs.fields.set_cursor.Statement.{statement}
 use Rattle.base_state.proofs.fields.set_cursor.Tie as tie
 
-put-number-requires : tie.Need-put-number-requires
+put-number-requires : tie.Need-put_number-requires
 put-number-requires c κs = search rules
 
-same_length : tie.Need-same-length
+same_length : tie.Need-shape_of-s
 same_length c = search rules
 
 returns : tie.Need-returns
 unfolding set_cursor
-returns c = c.before.before.put-number.ensures
+returns c = c.put_number.ensures
 
-pub set-cursor-spec : {M : Type 1} → statement M
-set-cursor-spec = tie.close (tie.spec put-number-requires same_length returns)
+pub set_cursor_spec : {M : Type 1} → statement M
+set_cursor_spec = tie.close (tie.spec put-number-requires same_length returns)

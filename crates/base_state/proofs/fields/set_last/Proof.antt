@@ -4,15 +4,15 @@ use Rattle.model.specs.State.{set_last}
 use Rattle.base_state.proofs.fields.set_last.Statement.{statement}
 use Rattle.base_state.proofs.fields.set_last.Tie as tie
 
-put-number-requires : tie.Need-put-number-requires
+put-number-requires : tie.Need-put_number-requires
 put-number-requires c κs = search rules
 
-same_length : tie.Need-same-length
+same_length : tie.Need-shape_of-s
 same_length c = search rules
 
 returns : tie.Need-returns
 unfolding set_last
-returns c = c.before.before.put-number.ensures
+returns c = c.put_number.ensures
 
-pub set-last-spec : {M : Type 1} → statement M
-set-last-spec = tie.close (tie.spec put-number-requires same_length returns)
+pub set_last_spec : {M : Type 1} → statement M
+set_last_spec = tie.close (tie.spec put-number-requires same_length returns)

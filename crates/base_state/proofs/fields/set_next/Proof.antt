@@ -4,15 +4,15 @@ use Rattle.model.specs.State.{set_next}
 use Rattle.base_state.proofs.fields.set_next.Statement.{statement}
 use Rattle.base_state.proofs.fields.set_next.Tie as tie
 
-put-number-requires : tie.Need-put-number-requires
+put-number-requires : tie.Need-put_number-requires
 put-number-requires c κs = search rules
 
-same_length : tie.Need-same-length
+same_length : tie.Need-shape_of-s
 same_length c = search rules
 
 returns : tie.Need-returns
 unfolding set_next
-returns c = c.before.before.put-number.ensures
+returns c = c.put_number.ensures
 
-pub set-next-spec : {M : Type 1} → statement M
-set-next-spec = tie.close (tie.spec put-number-requires same_length returns)
+pub set_next_spec : {M : Type 1} → statement M
+set_next_spec = tie.close (tie.spec put-number-requires same_length returns)

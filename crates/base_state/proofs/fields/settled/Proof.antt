@@ -11,5 +11,5 @@ returns : tie.Need-returns
 unfolding state_of
 returns c = c.number.ensures
 
-pub settled-spec : {M : Type 1} → statement M
-settled-spec = tie.close (tie.spec number-requires returns)
+pub settled_spec : {M : Type 1} → statement M
+settled_spec = tie.close (tie.spec number-requires returns)

@@ -6,31 +6,31 @@ use Rattle.model.specs.Newest.{carry_listed}
 use Rattle.base_state.proofs.listed.carry_listed.Statement.{statement}
 use Rattle.base_state.proofs.listed.carry_listed.Tie as tie
 
-returns : tie.Need-returns
+returns : tie.Need-returns-then-homes-lt12
 unfolding carry_listed
-returns c = rw (lt-leb 12 _ c.if1.true)
+returns c = rw (lt-leb 12 _ c.if-homes-lt12.true)
 
-sub-set-listed : tie.Need-overflow-sub-set-listed
+sub-set-listed : tie.Need-slice_bounds-set_listed-count
 sub-set-listed c = search rules
 
-part-set-listed-start : tie.Need-slice-bounds-set-listed-start
+part-set-listed-start : tie.Need-slice_bounds-set_listed-start
 part-set-listed-start c = search rules
 
-part-set-listed-end : tie.Need-slice-bounds-set-listed-end
+part-set-listed-end : tie.Need-slice_bounds-set_listed-end
 part-set-listed-end c = search rules
 
-set-listed-requires : tie.Need-set-listed-requires
+set-listed-requires : tie.Need-set_listed-requires
 set-listed-requires c κs = search rules
 
-same_length : tie.Need-same-length
+same_length : tie.Need-shape_of-s
 same_length c = search rules
 
-returns-2 : tie.Need-returns-2
+returns-2 : tie.Need-returns
 unfolding carry_listed part
-returns-2 c = rw (le-leb 12 _ c.before.before.before.before.before.if1.false) c.before.before.set-listed.ensures
+returns-2 c = rw (le-leb 12 _ c.if-homes-lt12.false) c.set_listed.ensures
 
-pub carry-listed-spec : {M : Type 1} → statement M
-carry-listed-spec =
+pub carry_listed_spec : {M : Type 1} → statement M
+carry_listed_spec =
     tie.close
     (tie.spec
     returns

@@ -11,5 +11,5 @@ returns : tie.Need-returns
 unfolding list_sign
 returns c = c.number.ensures.0
 
-pub list-sign-spec : {M : Type 1} → statement M
-list-sign-spec = tie.close (tie.spec number-requires returns)
+pub list_sign_spec : {M : Type 1} → statement M
+list_sign_spec = tie.close (tie.spec number-requires returns)

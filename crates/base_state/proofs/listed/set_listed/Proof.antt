@@ -7,12 +7,12 @@ use Rattle.base_state.proofs.listed.set_listed.Tie as tie
 copy-requires : tie.Need-copy-requires
 copy-requires c κs = search rules
 
-same_length : tie.Need-same-length
+same_length : tie.Need-shape_of-s
 same_length c = search rules
 
 returns : tie.Need-returns
 unfolding set_listed
-returns c = c.before.before.copy.ensures
+returns c = c.copy.ensures
 
-pub set-listed-spec : {M : Type 1} → statement M
-set-listed-spec = tie.close (tie.spec copy-requires same_length returns)
+pub set_listed_spec : {M : Type 1} → statement M
+set_listed_spec = tie.close (tie.spec copy-requires same_length returns)

@@ -6,21 +6,21 @@ use Rattle.base_state.proofs.PromiseSums.{position-most}
 use Rattle.base_state.proofs.promises.places.Statement.{statement}
 use Rattle.base_state.proofs.promises.places.Tie as tie
 
-add-result : tie.Need-overflow-add-result
+add-result : tie.Need-overflow_add-result
 add-result c = search rules
 
-mul-result : tie.Need-overflow-mul-result
+mul-result : tie.Need-overflow_mul-result
 mul-result c = search rules
 
-next-position-requires : tie.Need-next-position-requires
+next-position-requires : tie.Need-next_position-requires
 next-position-requires c κs = search rules
 
-sub-result : tie.Need-overflow-sub-result
-sub-result c = omega (arith, c.next-position.ensures, position-most _ c.before.before.requires)
+sub-result : tie.Need-overflow_sub-result
+sub-result c = omega (arith, c.next_position.ensures, position-most _ c.requires)
 
 returns : tie.Need-returns
 unfolding places
-returns c = rw c.next-position.ensures
+returns c = rw c.next_position.ensures
 
-pub places-spec : {M : Type 1} → statement M
-places-spec = tie.close (tie.spec add-result mul-result next-position-requires sub-result returns)
+pub places_spec : {M : Type 1} → statement M
+places_spec = tie.close (tie.spec add-result mul-result next-position-requires sub-result returns)

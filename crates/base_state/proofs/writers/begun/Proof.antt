@@ -8,5 +8,5 @@ returns : tie.Need-returns
 unfolding begun
 returns c = refl
 
-pub begun-spec : {M : Type 1} → statement M
-begun-spec = tie.close (tie.spec returns)
+pub begun_spec : {M : Type 1} → statement M
+begun_spec = tie.close (tie.spec returns)

@@ -4,16 +4,16 @@ use Rattle.model.specs.State.{count_for}
 use Rattle.base_state.proofs.writers.count_for.Statement.{statement}
 use Rattle.base_state.proofs.writers.count_for.Tie as tie
 
-has-logged-requires : tie.Need-has-logged-requires
+has-logged-requires : tie.Need-has_logged-requires
 has-logged-requires c κs = search rules
 
-returns : tie.Need-returns
+returns : tie.Need-returns-then-has_logged
 unfolding count_for
-returns c = rw (← c.before.has-logged.ensures, c.if1.true)
+returns c = rw (← c.has_logged.ensures, c.if-has_logged.true)
 
-returns-2 : tie.Need-returns-2
+returns-2 : tie.Need-returns-else-has_logged
 unfolding count_for
-returns-2 c = rw (← c.before.has-logged.ensures, c.if1.false)
+returns-2 c = rw (← c.has_logged.ensures, c.if-has_logged.false)
 
-pub count-for-spec : {M : Type 1} → statement M
-count-for-spec = tie.close (tie.spec has-logged-requires returns returns-2)
+pub count_for_spec : {M : Type 1} → statement M
+count_for_spec = tie.close (tie.spec has-logged-requires returns returns-2)

@@ -8,5 +8,5 @@ returns : tie.Need-returns
 unfolding has_logged
 returns c = refl
 
-pub has-logged-spec : {M : Type 1} → statement M
-has-logged-spec = tie.close (tie.spec returns)
+pub has_logged_spec : {M : Type 1} → statement M
+has_logged_spec = tie.close (tie.spec returns)

@@ -8,5 +8,5 @@ returns : tie.Need-returns
 unfolding is_open_now
 returns c = refl
 
-pub is-open-spec : {M : Type 1} → statement M
-is-open-spec = tie.close (tie.spec returns)
+pub is_open_spec : {M : Type 1} → statement M
+is_open_spec = tie.close (tie.spec returns)

@@ -8,5 +8,5 @@ returns : tie.Need-returns
 unfolding logging
 returns c = refl
 
-pub logging-spec : {M : Type 1} → statement M
-logging-spec = tie.close (tie.spec returns)
+pub logging_spec : {M : Type 1} → statement M
+logging_spec = tie.close (tie.spec returns)

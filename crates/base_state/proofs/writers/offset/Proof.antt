@@ -6,15 +6,15 @@ use Rattle.model.specs.State.{writer_offset}
 use Rattle.base_state.proofs.writers.offset.Statement.{statement}
 use Rattle.base_state.proofs.writers.offset.Tie as tie
 
-mul-result : tie.Need-overflow-mul-result
+mul-result : tie.Need-overflow_mul-result
 mul-result c = search rules
 
-add-result : tie.Need-overflow-add-result
+add-result : tie.Need-overflow_add-result
 add-result c = search rules
 
 returns : tie.Need-returns
 unfolding writer_offset
 returns c = (refl, omega arith)
 
-pub offset-spec : {M : Type 1} → statement M
-offset-spec = tie.close (tie.spec mul-result add-result returns)
+pub offset_spec : {M : Type 1} → statement M
+offset_spec = tie.close (tie.spec mul-result add-result returns)

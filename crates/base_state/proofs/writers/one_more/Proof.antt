@@ -5,16 +5,16 @@ use Rattle.model.specs.State.{one_more_than}
 use Rattle.base_state.proofs.writers.one_more.Statement.{statement}
 use Rattle.base_state.proofs.writers.one_more.Tie as tie
 
-returns : tie.Need-returns
+returns : tie.Need-returns-then-less-eq18446744073709551615
 unfolding one_more_than
-returns c = omega (arith, c.if1.true)
+returns c = omega (arith, c.if-less-eq18446744073709551615.true)
 
-add-result : tie.Need-overflow-add-result
+add-result : tie.Need-overflow_add-result
 add-result c = search rules
 
-returns-2 : tie.Need-returns-2
+returns-2 : tie.Need-returns
 unfolding one_more_than
-returns-2 c = omega (arith, c.if1.false)
+returns-2 c = omega (arith, c.if-less-eq18446744073709551615.false)
 
-pub one-more-spec : {M : Type 1} → statement M
-one-more-spec = tie.close (tie.spec returns add-result returns-2)
+pub one_more_spec : {M : Type 1} → statement M
+one_more_spec = tie.close (tie.spec returns add-result returns-2)

@@ -5,18 +5,18 @@ use borrow.Author.Rules.{rules}
 use Rattle.base_state.proofs.writers.set_held.Statement.{statement}
 use Rattle.base_state.proofs.writers.set_held.Tie as tie
 
-held-offset-requires : tie.Need-held-offset-requires
+held-offset-requires : tie.Need-held_offset-at-requires
 held-offset-requires c κs = search rules
 
 copy-requires : tie.Need-copy-requires
 copy-requires c κs = search rules
 
-same_length : tie.Need-same-length
+same_length : tie.Need-shape_of-s
 same_length c = search rules
 
 returns : tie.Need-returns
 unfolding set_held
-returns c = c.before.before.copy.ensures ∙ rw c.before.before.before.before.held-offset.ensures.0
+returns c = c.copy.ensures ∙ rw c.held_offset-at.ensures.0
 
-pub set-held-spec : {M : Type 1} → statement M
-set-held-spec = tie.close (tie.spec held-offset-requires copy-requires same_length returns)
+pub set_held_spec : {M : Type 1} → statement M
+set_held_spec = tie.close (tie.spec held-offset-requires copy-requires same_length returns)
