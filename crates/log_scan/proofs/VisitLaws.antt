@@ -1,5 +1,5 @@
 -- What taking a word into the pass makes, kind by kind. Assumes nothing.
-use mathlib.Core.Path.{◌≡◌, refl, sym, ap, ◌∙◌}
+use mathlib.Core.Path.{◌≡◌, refl, sym, ◌∙◌}
 use mathlib.Core.Bool.{Bool, true, false, ◌&&◌, false≢true}
 use mathlib.Core.List.{List}
 use Prim.Native.Nat.{ℕ, ◌+◌, ◌-◌, ◌^◌, ◌≤◌, ◌<◌}
@@ -9,7 +9,7 @@ use lib.Dec.{eqb, leb}
 use lib.ListN.{get_or}
 use Rattle.model.specs.Tag.{field, home_field, read_tag}
 use Rattle.model.specs.declared.Tag.{Tag}
-use Rattle.model.specs.declared.Tag.TheVariants.{Nothing, Entry, Closing}
+use Rattle.model.specs.declared.Tag.TheVariants.{Nothing}
 use Rattle.model_laws.proofs.bytes.TagLaws.{field_lt}
 use Rattle.base_codec.proofs.KindLaws.{neither-kind, no-such-home, begun-before, plain-said, closing-said, closing-empty}
 use Rattle.log_scan.specs.declared.commits.Progress.{Progress}

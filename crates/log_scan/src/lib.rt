@@ -1,4 +1,6 @@
 // The log's groups, and the walk over them that applies the commit rule, as model/specs defines both.
+#![tactic(auto)]
+
 mod commits;
 mod groups;
 mod slots;

@@ -5,33 +5,33 @@ use Rattle.log_scan.specs.Scan.{counted}
 use Rattle.log_scan.proofs.commits.count_entry.Statement.{statement}
 use Rattle.log_scan.proofs.commits.count_entry.Tie as tie
 
-mul-n : tie.Need-overflow-mul-n
+mul-n : tie.Need-offset_bounds-counts-i
 mul-n c = search rules
 
-slice-read-n : tie.Need-slice-read-n
+slice-read-n : tie.Need-bounds-counts-i
 slice-read-n c = search rules
 
-add-n : tie.Need-overflow-add-n
+add-n : tie.Need-overflow_add-n
 add-n c = search rules
 
-mul-counts : tie.Need-overflow-mul-counts
+mul-counts : tie.Need-offset_bounds-counts-i-2
 mul-counts c = search rules
 
-slice-write-counts : tie.Need-slice-write-counts
+slice-write-counts : tie.Need-bounds-counts-i-2
 slice-write-counts c = search rules
 
-cast-result : tie.Need-overflow-cast-result
+cast-result : tie.Need-overflow_cast-result
 cast-result c = search rules
 
-same_length : tie.Need-same-length
+same_length : tie.Need-shape_of-counts
 same_length c = search rules
 
 returns : tie.Need-returns
 unfolding counted
 returns c = (refl, refl)
 
-pub count-entry-spec : {M : Type 1} → statement M
-count-entry-spec =
+pub count_entry_spec : {M : Type 1} → statement M
+count_entry_spec =
     tie.close
     (tie.spec
     mul-n

@@ -2,45 +2,40 @@
 use mathlib.Core.Path.{sym, ◌∙◌}
 use native.Mathlib.Omega.{arith}
 use borrow.Author.Rules.{rules}
-use borrow.Author.Tests.{not-true, not-false}
 use Rattle.log_scan.proofs.VisitLaws.{plain-used, below-most, visit-unknown, visit-early, visit-counted}
 use Rattle.log_scan.proofs.commits.visit_plain.Statement.{statement}
 use Rattle.log_scan.proofs.commits.visit_plain.Tie as tie
 
-has-home-requires : tie.Need-has-home-requires
+has-home-requires : tie.Need-has_home-requires
 has-home-requires c κs = search rules
 
-returns : tie.Need-returns
+returns : tie.Need-returns-then-not-has_home
 returns c homes e =
-    let h = c.before in
-    visit-unknown _ _ _ _ _ (sym (h.has-home.ensures homes e (plain-used _ h.before.before.requires.2)) ∙ not-true _ c.if1.true)
+    visit-unknown _ _ _ _ _ (sym (c.has_home.ensures homes e (plain-used _ c.requires.2)) ∙ c.if-not-has_home.true)
 
-tag-back-requires : tie.Need-tag-back-requires
+tag-back-requires : tie.Need-tag_back-back-requires
 tag-back-requires c κs = search rules
 
-returns-2 : tie.Need-returns-2
-returns-2 c homes e = visit-early _ _ _ _ _ _ c.before.tag_back.ensures c.if2.true
+returns-2 : tie.Need-returns-then-index-back
+returns-2 c homes e = visit-early _ _ _ _ _ _ c.tag_back-back.ensures c.if-index-back.true
 
-count-entry-requires : tie.Need-count-entry-requires
+count-entry-requires : tie.Need-count_entry-requires
 count-entry-requires c κs =
-    let p = c.before.before.before.before.before.before.requires in
+    let p = c.requires in
     (omega (arith, p), below-most _ _ _ _ p.3 p.0)
 
-same_length : tie.Need-same-length
+same_length : tie.Need-shape_of-counts
 same_length c = search rules
 
-returns-3 : tie.Need-returns-3
+returns-3 : tie.Need-returns
 returns-3 c homes e =
-    let n = c.before.before in
-    let b = n.before.before in
-    let h = b.before.before.before in
-    let p = h.before.before.requires in
-    visit-counted _ _ _ _ _ _ b.before.tag_back.ensures
-    (sym (h.has-home.ensures homes e (plain-used _ p.2)) ∙ not-false _ b.before.before.if1.false)
-    (omega (arith, b.if2.false)) _ p.2 n.count-entry.ensures.0
+    let p = c.requires in
+    visit-counted _ _ _ _ _ _ c.tag_back-back.ensures
+    (sym (c.has_home.ensures homes e (plain-used _ p.2)) ∙ c.if-not-has_home.false)
+    (omega (arith, c.if-index-back.false)) _ p.2 c.count_entry.ensures.0
 
-pub visit-plain-spec : {M : Type 1} → statement M
-visit-plain-spec =
+pub visit_plain_spec : {M : Type 1} → statement M
+visit_plain_spec =
     tie.close
     (tie.spec
     has-home-requires

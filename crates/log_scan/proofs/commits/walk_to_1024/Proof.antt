@@ -5,16 +5,16 @@ use Rattle.log_scan.proofs.ScanLaws.{zeros-all, zeros-long}
 use Rattle.log_scan.proofs.commits.walk_to_1024.Statement.{statement}
 use Rattle.log_scan.proofs.commits.walk_to_1024.Tie as tie
 
-slice-aggregate-walk-with : tie.Need-slice-aggregate-walk-with
+slice-aggregate-walk-with : tie.Need-slice_bounds-walk_with-end
 slice-aggregate-walk-with c = search rules
 
-walk-with-requires : tie.Need-walk-with-requires
+walk-with-requires : tie.Need-walk_with-requires
 walk-with-requires c κs =
-    let p = c.before.before.requires in
+    let p = c.requires in
     (p.0, p.1, omega arith, p.3, p.4, p.5, zeros-long _ 7168 (omega arith), zeros-all 7168)
 
 returns : tie.Need-returns
 returns c = search rules
 
-pub walk-to-1024-spec : {M : Type 1} → statement M
-walk-to-1024-spec = tie.close (tie.spec slice-aggregate-walk-with walk-with-requires returns)
+pub walk_to_1024_spec : {M : Type 1} → statement M
+walk_to_1024_spec = tie.close (tie.spec slice-aggregate-walk-with walk-with-requires returns)

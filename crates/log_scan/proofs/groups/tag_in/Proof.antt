@@ -5,20 +5,20 @@ use Rattle.log_scan.proofs.GroupLaws.{tag_read}
 use Rattle.log_scan.proofs.groups.tag_in.Statement.{statement}
 use Rattle.log_scan.proofs.groups.tag_in.Tie as tie
 
-mul-number : tie.Need-overflow-mul-number
+mul-number : tie.Need-overflow_mul-k
 mul-number c = search rules
 
-add-number : tie.Need-overflow-add-number
+add-number : tie.Need-overflow_add-k
 add-number c = search rules
 
 number-requires : tie.Need-number-requires
 number-requires c κs = search rules
 
-read-tag-requires : tie.Need-read-tag-requires
+read-tag-requires : tie.Need-read_tag-requires
 read-tag-requires c κs = search rules
 
 returns : tie.Need-returns
-returns c = c.read-tag.ensures ∙ tag_read _ _ _ _ _ _ c.before.number.ensures.0
+returns c = c.read_tag.ensures ∙ tag_read _ _ _ _ _ _ c.number.ensures.0
 
-pub tag-in-spec : {M : Type 1} → statement M
-tag-in-spec = tie.close (tie.spec mul-number add-number number-requires read-tag-requires returns)
+pub tag_in_spec : {M : Type 1} → statement M
+tag_in_spec = tie.close (tie.spec mul-number add-number number-requires read-tag-requires returns)

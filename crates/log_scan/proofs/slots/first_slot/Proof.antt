@@ -5,29 +5,29 @@ use borrow.Author.Rules.{rules}
 use Rattle.log_scan.proofs.slots.first_slot.Statement.{statement}
 use Rattle.log_scan.proofs.slots.first_slot.Tie as tie
 
-cast-short-slot : tie.Need-overflow-cast-short-slot
+cast-short-slot : tie.Need-overflow_cast-n
 cast-short-slot c = search rules
 
-cast-short-slot-2 : tie.Need-overflow-cast-short-slot-2
+cast-short-slot-2 : tie.Need-overflow_cast-groups
 cast-short-slot-2 c = search rules
 
-short-slot-requires : tie.Need-short-slot-requires
+short-slot-requires : tie.Need-short_slot-requires
 short-slot-requires c κs = search rules
 
-returns : tie.Need-returns
+returns : tie.Need-returns-then-groups-le4294967295
 returns c = search rules
 
-rem-t7 : tie.Need-nonzero-rem-t7
+rem-t7 : tie.Need-nonzero_rem-result
 rem-t7 c = search rules
 
-div-t8 : tie.Need-nonzero-div-t8
+div-t8 : tie.Need-nonzero_div-result
 div-t8 c = search rules
 
-returns-2 : tie.Need-returns-2
+returns-2 : tie.Need-returns
 returns-2 c = slot-first _ _ (omega arith)
 
-pub first-slot-spec : {M : Type 1} → statement M
-first-slot-spec =
+pub first_slot_spec : {M : Type 1} → statement M
+first_slot_spec =
     tie.close
     (tie.spec
     cast-short-slot

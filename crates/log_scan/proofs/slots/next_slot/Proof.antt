@@ -5,17 +5,17 @@ use borrow.Author.Rules.{rules}
 use Rattle.log_scan.proofs.slots.next_slot.Statement.{statement}
 use Rattle.log_scan.proofs.slots.next_slot.Tie as tie
 
-add-slot : tie.Need-overflow-add-slot
+add-slot : tie.Need-overflow_add-slot
 add-slot c = search rules
 
-sub-t5 : tie.Need-overflow-sub-t5
+sub-t5 : tie.Need-overflow_sub-result
 sub-t5 c = search rules
 
-returns : tie.Need-returns
-returns c = (omega arith, λ n. slot-wraps _ _ n c.before.if1.true)
+returns : tie.Need-returns-then-slot-groups
+returns c = (omega arith, λ n. slot-wraps _ _ n c.if-slot-groups.true)
 
-returns-2 : tie.Need-returns-2
-returns-2 c = (omega arith, λ n. slot_next _ _ n (omega arith) c.if1.false)
+returns-2 : tie.Need-returns
+returns-2 c = (omega arith, λ n. slot_next _ _ n (omega arith) c.if-slot-groups.false)
 
-pub next-slot-spec : {M : Type 1} → statement M
-next-slot-spec = tie.close (tie.spec add-slot sub-t5 returns returns-2)
+pub next_slot_spec : {M : Type 1} → statement M
+next_slot_spec = tie.close (tie.spec add-slot sub-t5 returns returns-2)

@@ -6,20 +6,20 @@ use borrow.Author.Rules.{rules}
 use Rattle.log_scan.proofs.slots.short_slot.Statement.{statement}
 use Rattle.log_scan.proofs.slots.short_slot.Tie as tie
 
-rem-t3 : tie.Need-nonzero-rem-t3
+rem-t3 : tie.Need-nonzero_rem-result
 rem-t3 c = search rules
 
-cast-t4 : tie.Need-overflow-cast-t4
+cast-t4 : tie.Need-overflow_cast-result
 cast-t4 c = let k = mod-lt c.args.n c.requires in omega (arith, k)
 
-div-t5 : tie.Need-nonzero-div-t5
+div-t5 : tie.Need-nonzero_div-result
 div-t5 c = search rules
 
-cast-t7 : tie.Need-overflow-cast-t7
+cast-t7 : tie.Need-overflow_cast-result-2
 cast-t7 c = search rules
 
 returns : tie.Need-returns
 returns c = slot-first _ _ c.requires
 
-pub short-slot-spec : {M : Type 1} → statement M
-short-slot-spec = tie.close (tie.spec rem-t3 cast-t4 div-t5 cast-t7 returns)
+pub short_slot_spec : {M : Type 1} → statement M
+short_slot_spec = tie.close (tie.spec rem-t3 cast-t4 div-t5 cast-t7 returns)
