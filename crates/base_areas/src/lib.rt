@@ -1,4 +1,6 @@
 // The two areas: the log's header and groups, the homes, and their lengths, as model/specs/Layout defines them.
+#![tactic(auto)]
+
 mod blocks;
 mod groups;
 mod header;

@@ -6,56 +6,53 @@ use borrow.Author.Rules.{rules}
 use Rattle.base_areas.proofs.groups.put_entry.Statement.{statement}
 use Rattle.base_areas.proofs.groups.put_entry.Tie as tie
 
-mul_at : tie.Need-overflow-mul-at
+mul_at : tie.Need-overflow_mul-at
 mul_at c = search rules
 
-add_at : tie.Need-overflow-add-at
+add_at : tie.Need-overflow_add-at
 add_at c = search rules
 
-top-bit-requires : tie.Need-top-bit-requires
+top-bit-requires : tie.Need-top_bit-requires
 top-bit-requires c κs = search rules
 
-with-displaced-requires : tie.Need-with-displaced-requires
+with-displaced-requires : tie.Need-with_displaced-whole-requires
 with-displaced-requires c κs = search rules
 
-mul-put-number : tie.Need-overflow-mul-put-number
+mul-put-number : tie.Need-overflow_mul-k
 mul-put-number c = search rules
 
-add-put-number : tie.Need-overflow-add-put-number
+add-put-number : tie.Need-overflow_add-k
 add-put-number c = search rules
 
-add-put-number-2 : tie.Need-overflow-add-put-number-2
+add-put-number-2 : tie.Need-overflow_add-at-2
 add-put-number-2 c = search rules
 
-put-number-requires : tie.Need-put-number-requires
+put-number-requires : tie.Need-put_number-requires
 put-number-requires c κs = search rules
 
-mul-copy-with-top-bit : tie.Need-overflow-mul-copy-with-top-bit
+mul-copy-with-top-bit : tie.Need-overflow_mul-k-2
 mul-copy-with-top-bit c = search rules
 
-add-copy-with-top-bit : tie.Need-overflow-add-copy-with-top-bit
+add-copy-with-top-bit : tie.Need-overflow_add-k-2
 add-copy-with-top-bit c = search rules
 
-add-copy-with-top-bit-2 : tie.Need-overflow-add-copy-with-top-bit-2
+add-copy-with-top-bit-2 : tie.Need-overflow_add-at-3
 add-copy-with-top-bit-2 c = search rules
 
-copy-with-top-bit-requires : tie.Need-copy-with-top-bit-requires
+copy-with-top-bit-requires : tie.Need-copy_with_top_bit-requires
 copy-with-top-bit-requires c κs = search rules
 
-same_length : tie.Need-same-length
+same_length : tie.Need-shape_of-log
 same_length c = search rules
 
 returns : tie.Need-returns
 returns c =
-    let n = c.before.before.before.before.before.before in
-    let w = n.before.before in
-    let t = w.before in
-    let a = t.before.before.before.args in
-    c.before.before.copy-with-top-bit.ensures
-    ∙ rw n.put-number.ensures (entry-written _ a.slot a.turn a.k a.word _ _ (omega arith) (w.with-displaced.ensures ∙ rw t.top_bit.ensures.0))
+    let a = c.args in
+    c.copy_with_top_bit.ensures
+    ∙ rw c.put_number.ensures (entry-written _ a.slot a.turn a.k a.word _ _ (omega arith) (c.with_displaced-whole.ensures ∙ rw c.top_bit.ensures.0))
 
-pub put-entry-spec : {M : Type 1} → statement M
-put-entry-spec =
+pub put_entry_spec : {M : Type 1} → statement M
+put_entry_spec =
     tie.close
     (tie.spec
     mul_at

@@ -12,5 +12,5 @@ returns : tie.Need-returns
 unfolding header_start
 returns c = (c.number.ensures.0, omega arith)
 
-pub header-start-spec : {M : Type 1} → statement M
-header-start-spec = tie.close (tie.spec number-requires returns)
+pub header_start_spec : {M : Type 1} → statement M
+header_start_spec = tie.close (tie.spec number-requires returns)

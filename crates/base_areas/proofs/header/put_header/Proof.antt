@@ -5,47 +5,43 @@ use Rattle.base_areas.proofs.HeaderLaws.{header-written}
 use Rattle.base_areas.proofs.header.put_header.Statement.{statement}
 use Rattle.base_areas.proofs.header.put_header.Tie as tie
 
-put-header-mark-requires : tie.Need-put-header-mark-requires
+put-header-mark-requires : tie.Need-put_header_mark-requires
 put-header-mark-requires c κs = search rules
 
-add-put-number : tie.Need-overflow-add-put-number
+add-put-number : tie.Need-overflow_add-at
 add-put-number c = search rules
 
-put-number-requires : tie.Need-put-number-requires
+put-number-requires : tie.Need-put_number-requires
 put-number-requires c κs = search rules
 
-add-put-number-2 : tie.Need-overflow-add-put-number-2
+add-put-number-2 : tie.Need-overflow_add-at-2
 add-put-number-2 c = search rules
 
-put-number-requires-2 : tie.Need-put-number-requires-2
+put-number-requires-2 : tie.Need-put_number-requires-2
 put-number-requires-2 c κs = search rules
 
-add-put-number-3 : tie.Need-overflow-add-put-number-3
+add-put-number-3 : tie.Need-overflow_add-at-3
 add-put-number-3 c = search rules
 
-put-number-requires-3 : tie.Need-put-number-requires-3
+put-number-requires-3 : tie.Need-put_number-requires-3
 put-number-requires-3 c κs = search rules
 
-add-clear : tie.Need-overflow-add-clear
+add-clear : tie.Need-overflow_add-at-4
 add-clear c = search rules
 
 clear-requires : tie.Need-clear-requires
 clear-requires c κs = search rules
 
-same_length : tie.Need-same-length
+same_length : tie.Need-shape_of-dst
 same_length c = search rules
 
 returns : tie.Need-returns
 returns c =
-    let h = c.before.before.before.before.before.before in
-    let g = h.before.before.before.before in
-    let s = g.before.before.before.before in
-    let m = s.before.before.before.before in
-    c.before.before.clear.ensures
-    ∙ rw (h.put-number3.ensures, g.put-number2.ensures, s.put-number.ensures, m.put-header-mark.ensures) (header-written _ _ _ _ _)
+    c.clear.ensures
+    ∙ rw (c.put_number-3.ensures, c.put_number-2.ensures, c.put_number.ensures, c.put_header_mark.ensures) (header-written _ _ _ _ _)
 
-pub put-header-spec : {M : Type 1} → statement M
-put-header-spec =
+pub put_header_spec : {M : Type 1} → statement M
+put_header_spec =
     tie.close
     (tie.spec
     put-header-mark-requires

@@ -6,17 +6,17 @@ use Rattle.base_areas.proofs.CopyLaws.{home-read}
 use Rattle.base_areas.proofs.homes.get_home.Statement.{statement}
 use Rattle.base_areas.proofs.homes.get_home.Tie as tie
 
-mul-copy-block : tie.Need-overflow-mul-copy-block
+mul-copy-block : tie.Need-overflow_mul-home
 mul-copy-block c = search rules
 
-copy-block-requires : tie.Need-copy-block-requires
+copy-block-requires : tie.Need-copy_block-requires
 copy-block-requires c κs = search rules
 
-same_length : tie.Need-same-length
+same_length : tie.Need-shape_of-block
 same_length c = search rules
 
 returns : tie.Need-returns
-returns c = c.before.before.copy-block.ensures ∙ home-read _ _ _ (omega arith) (omega arith)
+returns c = c.copy_block.ensures ∙ home-read _ _ _ (omega arith) (omega arith)
 
-pub get-home-spec : {M : Type 1} → statement M
-get-home-spec = tie.close (tie.spec mul-copy-block copy-block-requires same_length returns)
+pub get_home_spec : {M : Type 1} → statement M
+get_home_spec = tie.close (tie.spec mul-copy-block copy-block-requires same_length returns)

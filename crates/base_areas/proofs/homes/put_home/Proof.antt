@@ -7,18 +7,18 @@ use Rattle.base_areas.proofs.CopyLaws.{whole-block}
 use Rattle.base_areas.proofs.homes.put_home.Statement.{statement}
 use Rattle.base_areas.proofs.homes.put_home.Tie as tie
 
-mul-copy-block : tie.Need-overflow-mul-copy-block
+mul-copy-block : tie.Need-overflow_mul-home
 mul-copy-block c = search rules
 
-copy-block-requires : tie.Need-copy-block-requires
+copy-block-requires : tie.Need-copy_block-requires
 copy-block-requires c κs = search rules
 
-same_length : tie.Need-same-length
+same_length : tie.Need-shape_of-area
 same_length c = search rules
 
 returns : tie.Need-returns
 unfolding put_home
-returns c = c.before.before.copy-block.ensures ∙ whole-block _ _ _ (omega arith)
+returns c = c.copy_block.ensures ∙ whole-block _ _ _ (omega arith)
 
-pub put-home-spec : {M : Type 1} → statement M
-put-home-spec = tie.close (tie.spec mul-copy-block copy-block-requires same_length returns)
+pub put_home_spec : {M : Type 1} → statement M
+put_home_spec = tie.close (tie.spec mul-copy-block copy-block-requires same_length returns)

@@ -8,5 +8,5 @@ returns : tie.Need-returns
 unfolding home_count
 returns c = refl
 
-pub data-homes-spec : {M : Type 1} → statement M
-data-homes-spec = tie.close (tie.spec returns)
+pub data_homes_spec : {M : Type 1} → statement M
+data_homes_spec = tie.close (tie.spec returns)

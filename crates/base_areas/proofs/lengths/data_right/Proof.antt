@@ -4,20 +4,20 @@ use Rattle.base_areas.proofs.LengthLaws.{homes-few, homes-many, homes-whole}
 use Rattle.base_areas.proofs.lengths.data_right.Statement.{statement}
 use Rattle.base_areas.proofs.lengths.data_right.Tie as tie
 
-data-homes-requires : tie.Need-data-homes-requires
+data-homes-requires : tie.Need-data_homes-homes-requires
 data-homes-requires c κs = search rules
 
-returns : tie.Need-returns
-returns c = homes-few _ _ c.before.data-homes.ensures c.if1.true
+returns : tie.Need-returns-then-homes-lt1
+returns c = homes-few _ _ c.data_homes-homes.ensures c.if-homes-lt1.true
 
-returns-2 : tie.Need-returns-2
-returns-2 c = homes-many _ _ c.before.before.data-homes.ensures c.if2.true
+returns-2 : tie.Need-returns-then-homes-gt65535
+returns-2 c = homes-many _ _ c.data_homes-homes.ensures c.if-homes-gt65535.true
 
-mul-result : tie.Need-overflow-mul-result
+mul-result : tie.Need-overflow_mul-result
 mul-result c = search rules
 
-returns-3 : tie.Need-returns-3
-returns-3 c = homes-whole _ _ c.before.before.data-homes.ensures c.before.if1.false c.if2.false
+returns-3 : tie.Need-returns
+returns-3 c = homes-whole _ _ c.data_homes-homes.ensures c.if-homes-lt1.false c.if-homes-gt65535.false
 
-pub data-right-spec : {M : Type 1} → statement M
-data-right-spec = tie.close (tie.spec data-homes-requires returns returns-2 mul-result returns-3)
+pub data_right_spec : {M : Type 1} → statement M
+data_right_spec = tie.close (tie.spec data-homes-requires returns returns-2 mul-result returns-3)

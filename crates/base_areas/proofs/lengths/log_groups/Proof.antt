@@ -4,13 +4,13 @@ use Rattle.model.specs.Layout.{group_count}
 use Rattle.base_areas.proofs.lengths.log_groups.Statement.{statement}
 use Rattle.base_areas.proofs.lengths.log_groups.Tie as tie
 
-returns : tie.Need-returns
+returns : tie.Need-returns-then-len-lt64
 unfolding group_count
 returns c = omega arith
 
-returns-2 : tie.Need-returns-2
+returns-2 : tie.Need-returns
 unfolding group_count
 returns-2 c = omega arith
 
-pub log-groups-spec : {M : Type 1} → statement M
-log-groups-spec = tie.close (tie.spec returns returns-2)
+pub log_groups_spec : {M : Type 1} → statement M
+log_groups_spec = tie.close (tie.spec returns returns-2)

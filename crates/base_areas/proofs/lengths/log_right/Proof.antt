@@ -4,24 +4,24 @@ use Rattle.base_areas.proofs.LengthLaws.{groups-few, groups-many, groups-whole}
 use Rattle.base_areas.proofs.lengths.log_right.Statement.{statement}
 use Rattle.base_areas.proofs.lengths.log_right.Tie as tie
 
-log-groups-requires : tie.Need-log-groups-requires
+log-groups-requires : tie.Need-log_groups-groups-requires
 log-groups-requires c κs = search rules
 
-returns : tie.Need-returns
-returns c = groups-few _ _ c.before.log-groups.ensures c.if1.true
+returns : tie.Need-returns-then-groups-lt4
+returns c = groups-few _ _ c.log_groups-groups.ensures c.if-groups-lt4.true
 
-returns-2 : tie.Need-returns-2
-returns-2 c = groups-many _ _ c.before.before.log-groups.ensures c.if2.true
+returns-2 : tie.Need-returns-then-groups-gt-MAX_GROUPS
+returns-2 c = groups-many _ _ c.log_groups-groups.ensures c.if-groups-gt-MAX_GROUPS.true
 
-mul-result : tie.Need-overflow-mul-result
+mul-result : tie.Need-overflow_mul-result
 mul-result c = search rules
 
-add-result : tie.Need-overflow-add-result
+add-result : tie.Need-overflow_add-result
 add-result c = search rules
 
-returns-3 : tie.Need-returns-3
-returns-3 c = groups-whole _ _ c.before.before.log-groups.ensures c.before.if1.false c.if2.false
+returns-3 : tie.Need-returns
+returns-3 c = groups-whole _ _ c.log_groups-groups.ensures c.if-groups-lt4.false c.if-groups-gt-MAX_GROUPS.false
 
-pub log-right-spec : {M : Type 1} → statement M
-log-right-spec =
+pub log_right_spec : {M : Type 1} → statement M
+log_right_spec =
     tie.close (tie.spec log-groups-requires returns returns-2 mul-result add-result returns-3)

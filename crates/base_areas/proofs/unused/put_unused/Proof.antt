@@ -8,19 +8,19 @@ use Rattle.base_areas.proofs.unused.put_unused.Tie as tie
 clear-requires : tie.Need-clear-requires
 clear-requires c κs = search rules
 
-add-put-turn-blocks : tie.Need-overflow-add-put-turn-blocks
+add-put-turn-blocks : tie.Need-overflow_add-at
 add-put-turn-blocks c = search rules
 
-put-turn-blocks-requires : tie.Need-put-turn-blocks-requires
+put-turn-blocks-requires : tie.Need-put_turn_blocks-requires
 put-turn-blocks-requires c κs = search rules
 
-same_length : tie.Need-same-length
+same_length : tie.Need-shape_of-dst
 same_length c = search rules
 
 returns : tie.Need-returns
-returns c = c.before.before.put-turn-blocks.ensures ∙ rw c.before.before.before.before.before.before.clear.ensures (unused-written _ _ _)
+returns c = c.put_turn_blocks.ensures ∙ rw c.clear.ensures (unused-written _ _ _)
 
-pub put-unused-spec : {M : Type 1} → statement M
-put-unused-spec =
+pub put_unused_spec : {M : Type 1} → statement M
+put_unused_spec =
     tie.close
     (tie.spec clear-requires add-put-turn-blocks put-turn-blocks-requires same_length returns)
