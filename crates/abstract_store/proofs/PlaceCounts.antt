@@ -5,14 +5,14 @@ use mathlib.Core.Path.{◌≡◌, refl, sym, ap, ◌∙◌}
 use mathlib.Core.Logic.{◌⊎◌, inl, inr}
 use mathlib.Core.Bool.{Bool, true, false, cond}
 use mathlib.Core.List.{List, [], ◌∷◌, ◌++◌}
-use native.Mathlib.Decide.{ℕ_discrete, dec_le}
+use native.Mathlib.Decide.{ℕ_discrete}
 use native.Mathlib.Omega.{arith}
 use lib.Dec.{eqb, leb}
 use lib.ListN.{length}
-use borrow.Author.Tests.{eqb-true, eqb-false, eq-eqb, ne_eqb, leb-true, leb-false, le-leb, lt-leb}
+use borrow.Author.Tests.{eqb-true, eqb-false, ne_eqb, leb-true, leb-false}
 use Rattle.abstract_store.specs.Usage.{entries_in}
 use Rattle.model_laws.proofs.trace.Trace.{Ev, Hist, mine, set_open, advance, hist, first_of, closer_of, oldest_of, closing_from, Apart}
-use Rattle.model_laws.proofs.trace.TraceLaws.{All, Falling, falling-more, first_of-inside, Long, open-falling, done-falling}
+use Rattle.model_laws.proofs.trace.TraceLaws.{All, Falling, first_of-inside, Long, open-falling, done-falling}
 
 -- ---- how often a position is in a transaction, and in some transactions
 

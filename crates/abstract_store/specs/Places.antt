@@ -1,12 +1,12 @@
 -- Places accounted for. "Define from the calls since the last done opening, not from stored sums, which of the 7 × G places are live (of open
 -- transactions, or committed and not trimmed), dead (aborted, or passed over by flush, not trimmed) or free (from the next position to the end of
 -- group start + G − 1, promised ones included)."
-use Rattle.std.specs.Prelude.{ℕ, zero, suc, ◌+◌, ◌-◌, ◌*◌, ◌≤◌, ◌<◌, ◌≡◌, Bool, true, false, cond, ◌&&◌, ◌||◌, List, [], ◌∷◌, ◌++◌, eqb, leb, ltb, length, replicate}
+use Rattle.std.specs.Prelude.{ℕ, zero, suc, ◌+◌, ◌-◌, ◌*◌, ◌≤◌, ◌<◌, ◌≡◌, Bool, true, false, cond, ◌||◌, List, [], ◌∷◌, ◌++◌, eqb, leb, length, replicate}
 use Rattle.model.specs.Layout.{max_start}
 use Rattle.model.specs.Book as book
 use Rattle.model.specs.Book.{Landing, row, persisted, Entry, Commit, Task, idle, opened, Book}
-use Rattle.model.specs.History.{Change, begins, reserves, aborts, stores, commits, flushes, Service, Call, opening, confirm, change, service, flush, settle, trim, Event, call, crash, World, Formatting, after_format, ends, step, AllAllowed}
-use Rattle.abstract_store.specs.Store.{Store, new_store, group_of_first, next_group, next_of, places_left, many_homes, to_settle, next_start, flush_bytes, settle_bytes, trim_bytes, store_must_log, commit_must_log, reply, reply_of, follow}
+use Rattle.model.specs.History.{Change, begins, reserves, aborts, stores, commits, flushes, Call, opening, confirm, change, service, flush, settle, trim, Event, call, crash, World, Formatting, after_format, ends, step, AllAllowed}
+use Rattle.abstract_store.specs.Store.{Store, new_store, group_of_first, next_of, places_left, next_start, flush_bytes, settle_bytes, trim_bytes, store_must_log, commit_must_log, follow}
 
 -- What has become of a place that the log has used: an entry of a writer's open transaction, of a committed one, of an aborted one; or a flush
 -- passed it over.

@@ -3,7 +3,7 @@
 use Rattle.std.specs.Prelude.{ℕ, ◌+◌, ◌≤◌, ◌<◌, ◌≡◌, ◌⊎◌, Bool, true, false, cond, ◌&&◌, ◌||◌, List, [], ◌∷◌, ◌++◌, eqb, length}
 use Rattle.model.specs.Layout.{home_at}
 use Rattle.model.specs.State.{state_of}
-use Rattle.model.specs.History.{Service, settles, round_begins, round_steps, trims, reads, Call, opening, confirm, change, service, settle, begin_round, step_round, Event, call, World, Formatting, after_format, ends, step, after, AllAllowed}
+use Rattle.model.specs.History.{settles, round_begins, round_steps, trims, reads, Call, opening, confirm, change, service, settle, begin_round, step_round, Event, call, World, Formatting, after_format, ends, step, after, AllAllowed}
 use Rattle.model.specs.History.{calls}
 use Rattle.abstract_store.specs.Rounds.{homes_left, may_come}
 

@@ -1,13 +1,12 @@
 -- Settling in small steps: what a round keeps, as statements over all histories.
-use Rattle.std.specs.Prelude.{ℕ, zero, suc, ◌+◌, ◌-◌, ◌*◌, ◌≤◌, ◌<◌, ◌≡◌, ◌⊎◌, Bool, true, false, ◌&&◌, List, [], ◌∷◌, ◌++◌, eqb, leb, length, replicate}
-use Rattle.model.specs.Bytes.{zeros}
+use Rattle.std.specs.Prelude.{ℕ, ◌+◌, ◌*◌, ◌≤◌, ◌<◌, ◌≡◌, ◌⊎◌, Bool, true, false, List, [], ◌∷◌, length}
 use Rattle.model.specs.Layout.{home_at}
-use Rattle.model.specs.State.{state_of, under_way, fixed_in}
+use Rattle.model.specs.State.{state_of, fixed_in}
 use Rattle.model.specs.Effects.{round_homes}
 use Rattle.model.specs.Calls.{Outcome}
 use Rattle.model.specs.Book.{homes_after}
 use Rattle.model.specs.DemandTwo.{closed_below, SettledHomes}
-use Rattle.model.specs.History.{Service, settles, round_begins, round_steps, trims, reads, Call, opening, confirm, change, service, begin, store, commit, flush, settle, begin_round, step_round, trim, read, Event, call, crash, World, empty_store, lent, ends, feed, step, Always}
+use Rattle.model.specs.History.{Service, settles, round_begins, round_steps, trims, reads, Call, opening, confirm, change, service, Event, call, crash, World, lent, ends, feed, step, Always}
 use Rattle.abstract_store.specs.Store.{Store, to_step, after_done}
 
 -- the homes that the next step of the round under way finds

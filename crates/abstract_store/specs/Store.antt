@@ -1,8 +1,8 @@
 -- The abstract store: what every call answers, in terms of the calls before it. It is fed each call's arguments and answer and, at a crash, which
 -- writes persisted; nothing from the strip, the copies or the bytes of the log. An engineer reads here when a call is done, with which number it is
 -- refused, what figure it gives and how many bytes of records it writes.
-use Rattle.std.specs.Prelude.{ℕ, zero, suc, ◌+◌, ◌-◌, ◌*◌, ◌/◌, ◌≡◌, Bool, true, false, cond, not, ◌&&◌, ◌||◌, List, [], ◌∷◌, ◌++◌, eqb, leb, ltb, length, get_or, take}
-use Rattle.std.proofs.Math.Option.{Option, none, some}
+use Rattle.std.specs.Prelude.{ℕ, zero, suc, ◌+◌, ◌-◌, ◌*◌, ◌/◌, ◌≡◌, Bool, true, false, cond, not, ◌&&◌, ◌||◌, List, [], ◌∷◌, eqb, leb, ltb, length, get_or, take}
+use Rattle.std.proofs.Math.Option.{none, some}
 use Rattle.model.specs.Bytes.{part}
 use Rattle.model.specs.Layout.{max_start, header_start, entry_at}
 use Rattle.model.specs.Commit.{transactions}

@@ -3,7 +3,6 @@
 -- opening; UsageTold says that the call's numbers are those.
 use Rattle.std.specs.Prelude.{ℕ, zero, suc, ◌+◌, ◌-◌, ◌*◌, ◌≤◌, ◌<◌, ◌≡◌, Bool, true, false, cond, ◌&&◌, ◌||◌, List, [], ◌∷◌, eqb, ltb, length}
 use Rattle.model.specs.Commit.{transactions}
-use Rattle.model.specs.declared.State.{State}
 use Rattle.model.specs.declared.Writer.{Writer}
 use Rattle.model.specs.State.{state_of, next_position, places, promised, writer_of, has_logged, count_for}
 use Rattle.model.specs.Effects.{Given, groups, live_tags, live_base}

@@ -1,5 +1,5 @@
 -- What fetch, revise and transact answer at a moment at which the strip agrees with the abstract store. Assumes nothing.
-use Prim.Native.Nat.{ℕ, zero, suc, ◌+◌, ◌-◌, ◌*◌, ◌/◌, ◌≤◌, ◌<◌}
+use Prim.Native.Nat.{ℕ, zero, suc, ◌+◌, ◌*◌, ◌/◌, ◌≤◌, ◌<◌}
 use mathlib.Core.Path.{◌≡◌, refl, sym, ap, ◌∙◌}
 use mathlib.Core.Bool.{Bool, true, false, not, ◌&&◌}
 use mathlib.Core.List.{List, []}
@@ -9,12 +9,12 @@ use lib.ListN.{length}
 use borrow.Author.Tests.{eq-eqb, eqb-true, leb-true, ltb-true}
 use Rattle.model.specs.Layout.{group_count, home_count}
 use Rattle.model.specs.Batch.{batch_bytes}
-use Rattle.model.specs.State.{state_of, next_position, places, free_places, writer_of, is_open_now}
-use Rattle.model.specs.Effects.{Given, Effect, groups, homes}
+use Rattle.model.specs.State.{places, free_places}
+use Rattle.model.specs.Effects.{Given, groups, homes}
 use Rattle.model.specs.Questions.{ask, areas_right, state_right, newest_right, state_in_order, writer_known, writer_open, batch_fits}
 use Rattle.model.specs.Calls.{size_of}
 use Rattle.model.specs.History.{World, lent}
-use Rattle.abstract_store.specs.Store.{Store, next_of, free_left, is_idle, list_of, ask_batch, reply_of}
+use Rattle.abstract_store.specs.Store.{Store, next_of, free_left, is_idle, ask_batch, reply_of}
 use Rattle.abstract_store.proofs.ReplyLaws.{answers, ask-same}
 use Rattle.model_laws.proofs.bytes.LayoutLaws.{groups-in, homes_in, log-length-right, data-length-right}
 use Rattle.model_laws.proofs.state.OrderLaws.{InOrder, in_order}
@@ -22,7 +22,7 @@ use Rattle.model_laws.proofs.state.QuestionLaws.{ask-passed, and-true}
 use Rattle.acts.specs.Many.{blocks_lent, fetch_effect, transact_effect, blocks_right, homes_known, all_of, may_store_all, may_read_all, room_for_all, ask_homes, fetch_answer, revise_answer, transact_answer, fetch_call, revise_call, transact_call}
 use Rattle.acts.specs.Units.{fetch_ends, revise_ends, transact_ends}
 use Rattle.acts.specs.Steps.{Several}
-use Rattle.acts.specs.Replies.{many_blocks, whole_blocks, every_home, may_store_each, may_read_each, ask_named, ask_blocks, transact_bytes, ask_entries, reply_fetch, reply_revise, reply_transact, ManyAnswer, Agreeing, AgreeingAnswer}
+use Rattle.acts.specs.Replies.{many_blocks, whole_blocks, every_home, may_store_each, may_read_each, ask_named, ask_blocks, transact_bytes, ask_entries, reply_fetch, reply_revise, reply_transact, Agreeing, AgreeingAnswer}
 use Rattle.acts.proofs.TransactedLaws.{bytes-are, ticket_is}
 
 -- ---- a test of all homes, from the first on and up to the last

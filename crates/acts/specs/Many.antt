@@ -1,6 +1,6 @@
 -- Calls on several homes in a row under one verdict, for what stands above the store: fetch reads them, transact begins, stores them and commits.
 -- "a call on them names a writer, for whom it reads, or begins, stores and commits, and asks the store's questions once, in 01's order, for all of it"
-use Rattle.std.specs.Prelude.{ℕ, zero, suc, ◌+◌, ◌*◌, ◌/◌, Bool, true, false, not, ◌&&◌, List, [], ◌++◌, eqb, leb, length}
+use Rattle.std.specs.Prelude.{ℕ, zero, suc, ◌+◌, ◌*◌, ◌/◌, Bool, true, not, ◌&&◌, List, [], ◌++◌, eqb, leb, length}
 use Rattle.model.specs.Bytes.{part}
 use Rattle.model.specs.State.{free_places, list_sign}
 use Rattle.model.specs.Effects.{Given, homes, Effect, begin_effect, store_effect, commit_effect, read_effect}

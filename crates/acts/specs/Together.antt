@@ -1,9 +1,8 @@
 -- Histories with calls on several homes (G 4, D 8, positions from 28 on): what they answer and read, what a crash leaves of a unit of two homes, 3 and
 -- 4, and of its labels; and what they answer under a list of rights.
-use Rattle.std.specs.Prelude.{ℕ, zero, suc, Bool, true, false, List, [], ◌∷◌, ◌++◌, length, get_or}
+use Rattle.std.specs.Prelude.{ℕ, true, false, List, [], ◌∷◌, ◌++◌, length, get_or}
 use Rattle.model.specs.Bytes.{zeros}
-use Rattle.model.specs.Calls.{Outcome}
-use Rattle.model.specs.History.{opening, begin, reserve, abort, store, flush, Event, call, crash, World, ends}
+use Rattle.model.specs.History.{opening, begin, reserve, abort, flush, Event, call, crash, World, ends}
 use Rattle.model.specs.examples.Trials.{room, lane, fill, positions, fresh, Trial}
 use Rattle.model.specs.examples.Guarded.{guarded}
 use Rattle.acts.specs.Units.{Act, plain, transacts, fetches, revises, transact_ends, fetch_ends, revise_ends, act, acted, labels_from, last_unit}

@@ -1,5 +1,5 @@
 -- What calls on several homes answer where two neighbouring questions fail at once, where one fails alone, and with five groups.
-use Rattle.std.specs.Prelude.{ℕ, ◌+◌, List, [], ◌∷◌, ◌++◌, replicate}
+use Rattle.std.specs.Prelude.{ℕ, List, [], ◌∷◌, ◌++◌, replicate}
 use Rattle.model.specs.Bytes.{puts, zeros}
 use Rattle.model.specs.Layout.{group_at, group_tag}
 use Rattle.model.specs.State.{fresh_state, set_homes, set_next, set_filled, set_promise, set_writer, begun}

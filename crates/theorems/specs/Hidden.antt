@@ -1,6 +1,6 @@
 -- What rights hide, and what they do not: two histories (G 4, D 12) under one committed list, which differ only in the bytes stored in home 4, one block
 -- before them and one in them. Writer 1 may not read home 4: all its answers and blocks are the same in both. Writer 2 may: its blocks differ.
-use Rattle.std.specs.Prelude.{ℕ, ◌+◌, ◌*◌, Bool, cond, ◌&&◌, List, [], ◌∷◌, ◌++◌, eqb}
+use Rattle.std.specs.Prelude.{ℕ, ◌+◌, ◌*◌, Bool, ◌&&◌, List, [], ◌∷◌, ◌++◌, eqb}
 use Rattle.model.specs.Bytes.{zeros, bytes, same}
 use Rattle.model.specs.Effects.{Given}
 use Rattle.model.specs.History.{Call, opening, begin, store, commit, read, call, World, empty_store, ends, step}

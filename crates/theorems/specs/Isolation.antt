@@ -3,7 +3,7 @@
 -- homes that a writer may at no time in them read, with the same calls of the store itself, homes and lists, give that writer the same answers and
 -- blocks. Train bytes and opening belong to the driver and are left out of this."
 use Rattle.std.specs.Prelude.{ℕ, ◌≡◌, Bool, true, false, List, [], ◌∷◌, ◌++◌, length}
-use Rattle.std.proofs.Math.Option.{Option, none, some}
+use Rattle.std.proofs.Math.Option.{none, some}
 use Rattle.model.specs.Rights.{may_read}
 use Rattle.model.specs.Book.{Entry, Commit, Held, Task, idle, opened}
 use Rattle.model.specs.History.{Call, store, read, Event, call, World, Formatting, after_format, ends, step, after, AllAllowed}

@@ -3,8 +3,8 @@
 -- the newest positions untouched.
 use Rattle.std.specs.Prelude.{ℕ, ◌≡◌, List, []}
 use Rattle.model.specs.Effects.{Given}
-use Rattle.model.specs.Calls.{Outcome, begin_call, reserve_call, abort_call, store_call, flush_call, confirm_call, settle_call, begin_round_call, step_round_call}
-use Rattle.model.specs.Facts.{lent_with, left_with}
+use Rattle.model.specs.Calls.{begin_call, reserve_call, abort_call, store_call, flush_call, confirm_call, settle_call, begin_round_call, step_round_call}
+use Rattle.model.specs.Facts.{left_with}
 use Rattle.model.specs.History.{World, Call, opening, confirm, Change, change, begins, reserves, aborts, stores, commits, flushes, Service, service, settles, round_begins, round_steps, trims, reads, ends}
 use Rattle.abstract_store.specs.Usage.{usage_call, told_at}
 

@@ -1,31 +1,26 @@
 -- Demand 3, whole: for every G and D, every list of calls and crashes under the premises.
-use mathlib.Core.Path.{◌≡◌, refl, sym, ap, ◌∙◌, subst}
-use mathlib.Core.Logic.{◌⊎◌, inl, inr, ⊎_elim}
-use mathlib.Core.Bool.{Bool, true, false, not, false≢true}
+use mathlib.Core.Path.{◌≡◌, refl, sym, ap, ◌∙◌}
+use mathlib.Core.Logic.{inl, inr}
+use mathlib.Core.Bool.{true, false, not, false≢true}
 use mathlib.Core.List.{List, [], ◌∷◌}
-use Prim.Native.Nat.{ℕ, zero, suc, ◌+◌, ◌*◌, ◌^◌, ◌≤◌, ◌<◌}
-use native.Mathlib.Omega.{arith}
-use lib.ListN.{length}
+use Prim.Native.Nat.{ℕ, ◌^◌, ◌≤◌}
 use borrow.Author.Tests.{leb-true}
 use Rattle.model.specs.State.{state_of}
 use Rattle.model.specs.Effects.{Given, new_state, settle_effect, begin_round_effect, step_round_effect, trim_effect, trim_start}
 use Rattle.model.specs.Questions.{settle_answer, begin_round_answer, step_round_answer, trim_answer, start_fits}
 use Rattle.model.specs.Calls.{size_of, settle_call, begin_round_call, step_round_call, trim_call}
-use Rattle.model.specs.Crash.{fences, persist, fates}
-use Rattle.model.specs.Book.{Commit, Book, run, ended, crash}
-use Rattle.model.specs.DemandThree.{Opened, Crashed, NoneOwed, lost, Holds, AllHold, CallHolds, Demand3}
-use Rattle.model.specs.History.{Change, begins, reserves, aborts, stores, commits, flushes, Service, settles, round_begins, round_steps, trims, reads, Call, opening, confirm, change, service, settle, begin_round, step_round, trim, Event, call, crash as cut, World, empty_store, lent, ends, service_ends, is_opening, step, after_crash, Allowed, AllAllowed}
+use Rattle.model.specs.DemandThree.{Holds, AllHold, CallHolds, Demand3}
+use Rattle.model.specs.History.{Change, begins, reserves, aborts, stores, commits, flushes, Service, settles, round_begins, round_steps, trims, reads, Call, opening, confirm, change, service, settle, begin_round, step_round, trim, Event, call, crash as cut, World, empty_store, lent, ends, service_ends, is_opening, step, Allowed, AllAllowed}
 use Rattle.model_laws.proofs.state.QuestionLaws.{settle-ready, begin-round-ready, step-round-ready, trim-ready}
-use Rattle.theorems.proofs.steps.DoneLaws.{after}
 use Rattle.theorems.proofs.steps.FormatRuns.{from-format}
 use Rattle.theorems.proofs.steps.Beginning.{format-closed}
-use Rattle.theorems.proofs.steps.CallRuns.{Done, by_answer, no_bytes, begin-keeps, reserve-keeps, abort-keeps, store_keeps, commit-keeps, flush-keeps, confirm-keeps, read_keeps}
+use Rattle.theorems.proofs.steps.CallRuns.{by_answer, no_bytes, begin-keeps, reserve-keeps, abort-keeps, store_keeps, commit-keeps, flush-keeps, confirm-keeps, read_keeps}
 use Rattle.theorems.proofs.steps.SettleRuns.{settle-runs, settle-formed}
 use Rattle.theorems.proofs.steps.RoundRuns.{lent_out, lent-within, begin-round-runs, step-round-runs, step-round-formed}
 use Rattle.theorems.proofs.steps.TrimRuns.{trim-runs, trim-formed}
 use Rattle.theorems.proofs.steps.OpenKeeps.{open-keeps, open-holds}
 use Rattle.theorems.proofs.steps.CrashRuns.{crash-closed, crash-owed, quiet-closed, quiet-owed}
-use Rattle.theorems.proofs.invariant.Invariant.{Sizes, Closed, Running, Invariant, OldCommits}
+use Rattle.theorems.proofs.invariant.Invariant.{Sizes, Closed, Running, Invariant}
 use Rattle.model_laws.proofs.state.LoggingLaws.{fits}
 
 module _ (G D : ℕ) (z : Sizes G D) where

@@ -7,16 +7,15 @@ use mathlib.Core.Bool.{Bool, true, false, cond}
 use mathlib.Core.List.{List, [], ◌∷◌, ◌++◌}
 use mathlib.Core.Option.{Option, none, some}
 use native.Mathlib.Omega.{arith}
-use lib.Dec.{eqb, leb, ltb}
+use lib.Dec.{eqb}
 use lib.ListN.{length}
-use borrow.Author.Tests.{leb-true, leb-false, ltb-true, le-leb, lt-leb, lt-ltb, le-ltb}
-use Rattle.model.specs.Tag.{home_of}
+use borrow.Author.Tests.{ltb-true, le-leb, lt-leb}
 use Rattle.model.specs.declared.Tag.{Tag}
-use Rattle.model.specs.Layout.{group_count, block_at, home_at}
-use Rattle.model.specs.Commit.{members, transactions, newest_in, newest}
+use Rattle.model.specs.Layout.{group_count, home_at}
+use Rattle.model.specs.Commit.{members, transactions, newest_in}
 use Rattle.model.specs.State.{state_of, next_position, is_in_order, writer_of, held_of, holds, has_logged, holds_home}
 use Rattle.model.specs.declared.Writer.{Writer}
-use Rattle.model.specs.Effects.{Given, groups, homes, replayed, live_tags, live_base, newest_own, newest_committed, block_or, current, own_else, visible, shown, read_effect}
+use Rattle.model.specs.Effects.{Given, groups, replayed, live_tags, live_base, newest_own, newest_committed, block_or, current, own_else, visible, shown, read_effect}
 use Rattle.model.specs.Questions.{writer_known, is_home_known, read_answer}
 use Rattle.model.specs.Calls.{Outcome, done, read_call}
 use Rattle.model.specs.Book.{Entry, Commit, Task, homes_after, newest_entry, held_or, own_or, read_by}
@@ -26,13 +25,13 @@ use Rattle.model_laws.proofs.bytes.LayoutLaws.{groups-in}
 use Rattle.model_laws.proofs.state.OrderLaws.{order-in}
 use Rattle.model_laws.proofs.state.QuestionLaws.{read-ready}
 use Rattle.theorems.proofs.steps.DoneLaws.{outcome-code, outcome-done}
-use Rattle.model_laws.proofs.trace.Trace.{Ev, mine, hist, tag_at, home_on, block_on, surviving, closer_of, oldest_of, closing_from, all_landed}
+use Rattle.model_laws.proofs.trace.Trace.{Ev, mine, hist, tag_at, home_on, block_on, surviving, closer_of, oldest_of, all_landed}
 use Rattle.model_laws.proofs.trace.TraceLaws.{All, all_map, Rising, done-rising, logs-own}
 use Rattle.model_laws.proofs.trace.WalkLaws.{members-local}
 use Rattle.model_laws.proofs.trace.CountLaws.{pick_all, Counted, writer_on, writers, counted-now}
 use Rattle.model_laws.proofs.trace.ReplayLaws.{block_for, replay-home, good-found}
 use Rattle.theorems.proofs.invariant.RunLaws.{closed_below-old}
-use Rattle.theorems.proofs.invariant.Invariant.{Sizes, entry_for, entries_for, Matches, OldCommits, Commits, TaskOk, Copies, Running}
+use Rattle.theorems.proofs.invariant.Invariant.{Sizes, entry_for, entries_for, Matches, Commits, TaskOk, Copies, Running}
 use Rattle.theorems.proofs.invariant.LiveLog.{tags_in, base_of, end_of, kept_in, Shown, all-each, live-from, live-order, lent-groups, lent-homes, lent-tags, live-tags, live-transactions, kept-shown, open-shown}
 use Rattle.theorems.proofs.invariant.SettledLaws.{settled-most}
 use Rattle.theorems.proofs.steps.SettleRuns.{settle-area}

@@ -1,14 +1,14 @@
 -- A refused call leaves everything that it was lent as it was, field by field, and its number is one of those that refuse. Assumes nothing.
 use mathlib.Core.Path.{◌≡◌, refl}
 use mathlib.Core.Logic.{◌⊎◌, inl, inr}
-use mathlib.Core.Bool.{Bool, true, false, not, ◌&&◌, ◌||◌}
+use mathlib.Core.Bool.{Bool, true, false, ◌||◌}
 use Prim.Native.Nat.{ℕ, zero, suc}
 use native.Mathlib.Omega.{arith}
 use lib.Dec.{eqb}
 use borrow.Author.Tests.{ne_eqb}
-use Rattle.model.specs.Effects.{Given, Effect, format_effect, open_effect, open_start, begin_effect, reserve_effect, abort_effect, store_effect, commit_effect, flush_effect, confirm_effect, settle_effect, trim_start, trim_effect, read_effect, begin_round_effect, step_round_effect}
+use Rattle.model.specs.Effects.{Given, Effect}
 use Rattle.model.specs.Questions.{ask, ask_state, ask_block, ask_newest, ask_both, format_answer, open_answer, begin_answer, reserve_answer, abort_answer, store_answer, commit_answer, flush_answer, confirm_answer, settle_answer, trim_answer, read_answer, begin_round_answer, step_round_answer}
-use Rattle.model.specs.Calls.{Outcome, refused, done, size_of, outcome, format_call, open_call, begin_call, reserve_call, abort_call, store_call, commit_call, flush_call, confirm_call, settle_call, trim_call, read_call, begin_round_call, step_round_call}
+use Rattle.model.specs.Calls.{refused, done, outcome, format_call, open_call, begin_call, reserve_call, abort_call, store_call, commit_call, flush_call, confirm_call, settle_call, trim_call, read_call, begin_round_call, step_round_call}
 use Rattle.model.specs.Refusals.{refuses, Untouched, DoneOrUntouched, Refusals}
 use Rattle.acts.specs.Many.{ask_homes, fetch_answer, revise_answer, transact_answer, fetch_call, revise_call, transact_call}
 use Rattle.acts.specs.ManyRefusals.{ManyRefusals}

@@ -4,31 +4,29 @@ use mathlib.Core.Path.{◌≡◌, refl, sym, ap, ◌∙◌}
 use mathlib.Core.Logic.{◌⊎◌, inl, inr}
 use mathlib.Core.Bool.{Bool, true, false, cond, not, ◌&&◌, ◌||◌, and-true as and_yes, or-false, false≢true}
 use mathlib.Core.List.{List, [], ◌∷◌, ◌++◌}
-use mathlib.Core.Option.{none, some}
 use native.Mathlib.Omega.{arith}
 use native.Mathlib.Decide.{dec_lt}
 use lib.Dec.{eqb, leb, ltb}
 use lib.ListN.{length}
 use borrow.Author.Tests.{eqb-true, leb-true, leb-false, le-leb, lt-leb, ltb-false, lt-ltb, le-ltb, not-true}
-use Rattle.model.specs.Layout.{header_start, header}
 use Rattle.model.specs.State.{state_of, set_start, set_fenced, set_last, next_position, writer_of, held_of}
 use Rattle.model.specs.declared.State.{State}
 use Rattle.model.specs.declared.Writer.{Writer}
-use Rattle.model.specs.Effects.{Given, Effect, groups, homes, new_state, trim_start, trim_to, trim_effect}
+use Rattle.model.specs.Effects.{Given, new_state, trim_start, trim_to, trim_effect}
 use Rattle.model.specs.Questions.{trim_answer, start_fits}
-use Rattle.model.specs.Calls.{Outcome, outcome, done, size_of, trim_call}
-use Rattle.model.specs.Book.{Landing, row, persisted, Entry, Commit, Task, idle, opened}
+use Rattle.model.specs.Calls.{Outcome, done, size_of, trim_call}
+use Rattle.model.specs.Book.{Entry, Commit, Task}
 use Rattle.model.specs.DemandTwo.{first_row_group, lands_before, some_before, across, any_across, open_before, any_open_before, may_start_at, Trimmed}
-use Rattle.model.specs.History.{Call, trim, World, lent, ends, service_ends}
-use Rattle.model_laws.proofs.state.StateLaws.{with_start, with_fenced, with_last, state-set_start, length-set_start, state-set_fenced, length-set_fenced, state-set_last}
+use Rattle.model.specs.History.{trim, World, lent, ends, service_ends}
+use Rattle.model_laws.proofs.state.StateLaws.{state-set_start, length-set_start, state-set_fenced, length-set_fenced, state-set_last}
 use Rattle.model_laws.proofs.state.ListedLaws.{state-carry}
 use Rattle.model_laws.proofs.state.QuestionLaws.{and-true, trim-ready}
 use Rattle.model_laws.proofs.trace.Trace.{Ev, hist, first_of, closer_of, oldest_of, Apart}
 use Rattle.model_laws.proofs.trace.TraceLaws.{All, Falling, Long, first_of-inside, open-falling, done-falling, done-long}
-use Rattle.theorems.proofs.steps.DoneLaws.{outcome-code, outcome-done}
-use Rattle.theorems.proofs.steps.TrimRuns.{MayMove, trim-may, trim-most, last_kept}
+use Rattle.theorems.proofs.steps.DoneLaws.{outcome-code}
+use Rattle.theorems.proofs.steps.TrimRuns.{MayMove, trim-may, trim-most}
 use Rattle.theorems.proofs.demands.Yields.{ends-done, groups-are}
-use Rattle.theorems.proofs.invariant.Invariant.{Sizes, entry_for, entries_for, Matches, OldCommits, Commits, TaskOk, Running}
+use Rattle.theorems.proofs.invariant.Invariant.{Sizes, entry_for, entries_for, Matches, OldCommits, TaskOk, Running}
 
 -- ---- the entries of a transaction before a position
 

@@ -16,7 +16,7 @@ use Rattle.model.specs.Effects.{Given, Effect, new_state, confirm_effect, settle
 use Rattle.model.specs.Questions.{confirm_answer, settle_answer, begin_round_answer, step_round_answer}
 use Rattle.model.specs.Calls.{Outcome, outcome, done, size_of, confirm_call, settle_call, begin_round_call, step_round_call}
 use Rattle.model.specs.Crash.{is_fence, fences}
-use Rattle.model.specs.Book.{row, Entry, Commit, homes_after, owed_by}
+use Rattle.model.specs.Book.{Entry, Commit, homes_after, owed_by}
 use Rattle.model.specs.DemandTwo.{closed_below, group_writes, fenced_rows, rows_fenced, lands_below, all_below, owed_rows, SettledHomes}
 use Rattle.model.specs.History.{confirm, settle, World, lent, ends, service_ends, begin_round, step_round}
 use Rattle.model_laws.proofs.bytes.LayoutLaws.{groups-in}

@@ -16,7 +16,7 @@ use Rattle.model.specs.Calls.{Outcome, done, size_of, commit_call}
 use Rattle.model.specs.Book.{Commit, Task, idle, opened, Book, filled_up, with_task, add_commit, entry_of, commit_task, owed_by, all_owed, with_commits}
 use Rattle.model.specs.Book as book
 use Rattle.model.specs.DemandTwo.{Live, Yields, ServiceYields, YieldsAt}
-use Rattle.model.specs.History.{commits, Service, settles, trims, reads, Call, opening, confirm, change, service, commit, Event, call, crash, World, unopened, empty_store, lent, ends, change_ends, feed, feed_change, is_opening, after_done, after_call, after_crash, step, Allowed, round_begins, round_steps}
+use Rattle.model.specs.History.{Service, settles, trims, reads, Call, opening, confirm, change, service, commit, Event, call, crash, World, unopened, empty_store, lent, ends, change_ends, feed, feed_change, is_opening, after_done, after_call, after_crash, step, Allowed, round_begins, round_steps}
 use Rattle.model_laws.proofs.state.QuestionLaws.{commit-ready}
 use Rattle.theorems.proofs.steps.RefusalLaws.{left-as-lent}
 use Rattle.theorems.proofs.steps.DoneLaws.{outcome-code}

@@ -6,7 +6,7 @@ use Prim.Native.Nat.{ℕ, zero, suc, ◌+◌}
 use lib.Dec.{eqb}
 use Rattle.model.specs.State.{state_of, next_position, writer_of, holds, list_home, listed_of}
 use Rattle.model.specs.declared.Writer.{Writer}
-use Rattle.model.specs.Effects.{Given, Effect, new_state, format_effect, begin_effect, reserve_effect, abort_effect, log_held, store_first, store_again, store_other, store_effect, flush_part, flush_none, flush_effect, confirm_effect, tags_of, live_tags, live_base, settle_effect, begin_round_effect, round_transactions, round_homes, step_homes, step_round_effect, groups, homes}
+use Rattle.model.specs.Effects.{Given, Effect, new_state, format_effect, begin_effect, reserve_effect, abort_effect, log_held, store_first, store_again, store_other, store_effect, flush_part, flush_none, flush_effect, confirm_effect, tags_of, live_tags, live_base, settle_effect, begin_round_effect, round_transactions, round_homes, step_homes, step_round_effect}
 use Rattle.model.specs.Questions.{areas_right, state_right, block_right, state_in_order, writer_known, is_home_known, store_allowed, writer_open, room, store_logs, batch_fits, in_round, ask_state, ask_block, format_answer, begin_answer, reserve_answer, abort_answer, store_answer, flush_answer, confirm_answer, settle_answer, begin_round_answer, step_round_answer}
 use Rattle.model.specs.Calls.{refused, done, size_of, outcome, format_call, begin_call, reserve_call, abort_call, store_call, flush_call, confirm_call, settle_call, begin_round_call, step_round_call}
 use Rattle.model.specs.Rights.{for_home, store_list}

@@ -1,19 +1,17 @@
 -- The first opening after a done format is done. Assumes nothing.
 use Prim.Native.Nat.{ℕ, zero, suc, ◌+◌, ◌*◌, ◌^◌, ◌≤◌}
 use mathlib.Core.Path.{◌≡◌, refl, ap, ◌∙◌}
-use mathlib.Core.Bool.{Bool, true, false, ◌&&◌}
 use mathlib.Core.List.{List, [], ◌∷◌, append-nil}
 use native.Mathlib.Omega.{arith}
-use lib.Dec.{eqb, leb}
 use lib.ListN.{length}
 use borrow.Author.Tests.{eq-eqb, le-leb}
 use Rattle.model.specs.Questions.{ask}
 use Rattle.model.specs.Effects.{marked}
-use Rattle.model.specs.History.{Call, opening, Event, call, World, Formatting, after_format, empty_store, ends, unopened, is_opening, Allowed}
-use Rattle.abstract_store.specs.Store.{Reply, Store, new_store, group_of_first, many_homes, any_wrote, ask_batch, told, reply_of, reply}
+use Rattle.model.specs.History.{opening, call, Formatting, after_format, ends, unopened, is_opening, Allowed}
+use Rattle.abstract_store.specs.Store.{Reply, new_store, group_of_first, many_homes, any_wrote, ask_batch, told, reply_of, reply}
 use Rattle.theorems.specs.FirstOpening.{FormatOpens}
 use Rattle.theorems.proofs.invariant.Invariant.{Sizes}
-use Rattle.theorems.proofs.steps.FormatRuns.{sizes, after-format}
+use Rattle.theorems.proofs.steps.FormatRuns.{sizes}
 use Rattle.theorems.proofs.store.AnswersHold.{answers-hold}
 
 -- a new store has no home to bring back

@@ -1,9 +1,8 @@
 -- The history of specs/examples/Witnesses meets the premises of demands 2 and 3, which therefore say something of it.
-use mathlib.Core.Path.{◌≡◌, refl, sym, ap, ◌∙◌}
-use mathlib.Core.Bool.{Bool, true, false, not, ◌&&◌, false≢true}
+use mathlib.Core.Path.{◌≡◌, refl, sym, ◌∙◌}
+use mathlib.Core.Bool.{Bool, true, false, not, false≢true}
 use mathlib.Core.List.{List, [], ◌∷◌}
-use Prim.Native.Nat.{ℕ, zero, suc}
-use native.Mathlib.Omega.{arith}
+use Prim.Native.Nat.{ℕ}
 use lib.Dec.{leb}
 use lib.ListN.{length, take, drop, replicate, length-replicate}
 use borrow.Author.Tests.{leb-true}
@@ -14,7 +13,7 @@ use Rattle.model.specs.Crash.{fences}
 use Rattle.model.specs.DemandThree.{AllHold}
 use Rattle.model.specs.DemandTwo.{LiveThroughout}
 use Rattle.model.specs.NewestTrue.{NewestThroughout}
-use Rattle.model.specs.History.{Call, Event, call, crash, World, Formatting, after_format, empty_store, ends, is_opening, after_call, step, Allowed, AllAllowed}
+use Rattle.model.specs.History.{Event, call, crash, World, Formatting, after_format, empty_store, ends, is_opening, after_call, step, Allowed, AllAllowed}
 use Rattle.model.specs.examples.Trials.{answer_of}
 use Rattle.model.specs.examples.Witnesses.{used_before, used_copies, alike, allowed, history, answered, goes_onto, goes_so, goes_as_listed}
 use Rattle.model_laws.proofs.state.QuestionLaws.{and-true}

@@ -1,12 +1,12 @@
 -- What holds at every moment of a history: the invariants of the proof of demand 3. An era begins with a done opening; b is the group at which that
 -- opening let the log start, tr the trace of what has been logged since, old the commits of the book that the opening brought back.
-use Prim.Native.Nat.{ℕ, zero, suc, ◌+◌, ◌-◌, ◌*◌, ◌/◌, ◌%◌, ◌^◌, ◌≤◌, ◌<◌}
+use Prim.Native.Nat.{ℕ, suc, ◌+◌, ◌-◌, ◌*◌, ◌/◌, ◌%◌, ◌^◌, ◌≤◌, ◌<◌}
 use mathlib.Core.Path.{◌≡◌}
 use mathlib.Core.Logic.{◌⊎◌}
 use mathlib.Core.Bool.{Bool, true, false, cond, ◌&&◌, ◌||◌}
 use mathlib.Core.List.{List, [], ◌∷◌, ◌++◌}
-use mathlib.Core.Option.{Option, none, some}
-use lib.Dec.{eqb, leb, ltb}
+use mathlib.Core.Option.{none, some}
+use lib.Dec.{eqb, ltb}
 use lib.ListN.{length, drop}
 use Rattle.model.specs.Bytes.{part, same}
 use Rattle.model.specs.Tag.{entry_word, closing_word, with_displaced}
@@ -14,19 +14,17 @@ use Rattle.model.specs.Layout.{group_mark, group_at, group_number, group_tag, gr
 use Rattle.model.specs.Commit.{transactions}
 use Rattle.model.specs.Batch.{Record, FN}
 use Rattle.model.specs.State.{state_of, next_position, writer_of, held_of}
-use Rattle.model.specs.declared.State.{State}
 use Rattle.model.specs.declared.Writer.{Writer}
 use Rattle.model.specs.Effects.{replayed, home_writes}
 use Rattle.model.specs.Crash.{Memory, fences, persist, fates}
-use Rattle.model.specs.Book.{Landing, row, persisted, Entry, Commit, Held, Task, idle, opened, Book, fate_at, run, homes_after}
+use Rattle.model.specs.Book.{row, persisted, Entry, Commit, Task, idle, opened, fate_at, run, homes_after}
 use Rattle.model.specs.DemandTwo.{closed_below, SettledHomes, group_writes}
 use Rattle.model.specs.History.{World}
-use Rattle.model.specs.declared.Tag.{Tag}
 use Rattle.model_laws.proofs.state.OrderLaws.{InOrder}
 use Rattle.model_laws.proofs.trace.CrashLaws.{write_records, submits}
 use Rattle.model_laws.proofs.trace.HomeLaws.{In}
 use Rattle.model_laws.proofs.trace.MixLaws.{Mixed, group_part, home_part}
-use Rattle.model_laws.proofs.trace.Trace.{Ev, Hist, mine, hist, first_of, tag_at, home_on, block_on, link_in, closer_of, oldest_of, Apart, LinkOk, Linked, LinkedIf}
+use Rattle.model_laws.proofs.trace.Trace.{Ev, mine, hist, first_of, tag_at, home_on, block_on, closer_of, oldest_of, Apart, Linked, LinkedIf}
 
 pub record Sizes (G D : ℕ) : Type 0 where
   pub low : 4 ≤ G

@@ -18,7 +18,7 @@ use Rattle.model.specs.declared.Tag.TheVariants.{Nothing, Entry, Closing}
 use Rattle.model_laws.proofs.bytes.ByteLaws.{same_refl}
 use Rattle.model_laws.proofs.bytes.TagLaws.{read_word, entry-fits, closing-fits, displaced-fits, displaced-back, read-displaced, read-entry, read-closing, read-zero}
 use Rattle.model_laws.proofs.bytes.TurnLaws.{top_bit-lt, length-with_top_bit, top_bit-with, turn-back, turn_of-lt}
-use Rattle.model_laws.proofs.bytes.LayoutLaws.{length-put_blank, length-put_entry, group-fits, blank-same, blank-other, enter_in, length-enter_in, entry-same, entry_other, enter-number, enter-mark, enter-tag-same, enter-tag-other, enter-block-same, enter-block-other, length-blank_group, blank-number, blank-tag, blank_turn, blank-mark, ring, position-group, position-slot, position-index}
+use Rattle.model_laws.proofs.bytes.LayoutLaws.{group-fits, blank-same, blank-other, enter_in, length-enter_in, entry-same, entry_other, enter-number, enter-mark, enter-tag-same, enter-tag-other, enter-block-same, enter-block-other, length-blank_group, blank-number, blank-tag, blank_turn, blank-mark, ring, position-group, position-slot, position-index}
 use Rattle.model_laws.proofs.trace.Trace.{Ev, mine, hist, first_of, tag_of, tag_at, block_on, first_in}
 use Rattle.model_laws.proofs.trace.TraceLaws.{Falling, first_of-inside, mine-holds, open-falling, block_on-older, block_on-here}
 use Rattle.theorems.proofs.invariant.Invariant.{Sizes, plain_of, word_of, word_at, used_at, SoundAt, Sound, Holds, HoldsAt, NotAt}

@@ -1,22 +1,20 @@
 -- An opening: what it leaves in memory while it is under way, and when it is done.
-use mathlib.Core.Path.{◌≡◌, refl, sym, ap, ◌∙◌, subst}
+use mathlib.Core.Path.{◌≡◌, refl, sym, ap, ◌∙◌}
 use mathlib.Core.Logic.{◌⊎◌, inl, inr}
-use mathlib.Core.Bool.{Bool, true, false, cond, ◌&&◌, false≢true}
-use mathlib.Core.List.{List, [], ◌∷◌, ◌++◌}
-use mathlib.Core.Option.{Option, none, some}
-use Prim.Native.Nat.{ℕ, zero, suc, ◌+◌, ◌-◌, ◌*◌, ◌/◌, ◌%◌, ◌^◌, ◌≤◌, ◌<◌}
+use mathlib.Core.Bool.{Bool, true, false, ◌&&◌, false≢true}
+use mathlib.Core.List.{List, [], ◌∷◌}
+use Prim.Native.Nat.{ℕ, ◌+◌, ◌*◌, ◌%◌, ◌^◌, ◌≤◌, ◌<◌}
 use native.Mathlib.Nat.{mod-lt}
 use native.Mathlib.Omega.{arith}
 use lib.ListN.{length}
-use lib.Dec.{eqb, leb, lit<}
+use lib.Dec.{eqb}
 use borrow.Author.Tests.{ne_eqb, le-leb}
 use Rattle.model.specs.Bytes.{part, puts, same}
 use Rattle.model.specs.Layout.{group_mark, group_at, group_number, header, header_start, header_right, entry_at, home_at}
 use Rattle.model.specs.Commit.{transactions, newest, found}
-use Rattle.model.specs.Batch.{Record, HW, KW, FN}
-use Rattle.model.specs.Effects.{replayed, marked, touched, home_writes}
+use Rattle.model.specs.Effects.{touched, home_writes}
 use Rattle.model.specs.Crash.{Memory, persist_chosen}
-use Rattle.model.specs.Book.{Commit, fate_at, homes_after, run}
+use Rattle.model.specs.Book.{Commit, fate_at, homes_after}
 use Rattle.model.specs.DemandTwo.{closed_below}
 use Rattle.model.specs.declared.Tag.{Tag}
 use Rattle.model_laws.proofs.bytes.LayoutLaws.{length-header, header-start, header-right, group-header, area-ext}
@@ -24,7 +22,7 @@ use Rattle.model_laws.proofs.bytes.ByteLaws.{length-puts}
 use Rattle.model_laws.proofs.trace.ReplayLaws.{Good, length-replayed, replay-same, replay-kept, good-found}
 use Rattle.model_laws.proofs.trace.TraceLaws.{All}
 use Rattle.model_laws.proofs.trace.CrashLaws.{write_records, chosen-all, none-homes}
-use Rattle.model_laws.proofs.trace.HomeLaws.{In, in-marked, marked-in, marked-below, log-homes, length-homes, home_at-homes, log-homes-wrote, length-homes-wrote, home_at-unwritten, home_at-wrote}
+use Rattle.model_laws.proofs.trace.HomeLaws.{In, in-marked, marked-in, marked-below, log-homes, length-homes, home_at-homes, length-homes-wrote, home_at-unwritten, home_at-wrote}
 use Rattle.model_laws.proofs.trace.Trace.{hist}
 use Rattle.theorems.proofs.invariant.Invariant.{Sizes, FoundBelow, NotGroup, OldCommits, Opens, Late}
 

@@ -1,11 +1,11 @@
 -- Laws of the book's run after a crash against what is left whole of the trace (run of specs/Book, whole of Trace). Assumes nothing.
 use Prim.Native.Nat.{ℕ, suc, ◌+◌, ◌-◌, ◌/◌, ◌%◌, ◌≤◌, ◌<◌}
 use mathlib.Core.Path.{◌≡◌, refl, sym, ap, ◌∙◌}
-use mathlib.Core.Bool.{Bool, true, false, cond, ◌&&◌, and-true, and_comm}
+use mathlib.Core.Bool.{Bool, true, false, cond, and-true, and_comm}
 use mathlib.Core.List.{List, [], ◌∷◌, ◌++◌}
 use native.Mathlib.Omega.{arith}
 use lib.Dec.{leb, ltb}
-use borrow.Author.Tests.{leb-true, leb-false, le-leb, lt-ltb, le-ltb}
+use borrow.Author.Tests.{leb-true, leb-false, lt-ltb, le-ltb}
 use Rattle.model.specs.Book.{Entry, Commit, fate_at, survives, all_survive, run}
 use Rattle.model.specs.DemandTwo.{closed_below}
 use Rattle.model_laws.proofs.trace.Trace.{Ev, closer_of, closing_from, all_landed, whole}

@@ -5,11 +5,9 @@ use mathlib.Core.Bool.{Bool, true, false, cond, not, false≢true}
 use mathlib.Core.List.{List, [], ◌∷◌, ◌++◌}
 use lib.Dec.{eqb}
 use borrow.Author.Tests.{eqb-true}
-use Rattle.model.specs.Rights.{may_read}
-use Rattle.model.specs.Calls.{Outcome}
-use Rattle.model.specs.History.{Service, settles, round_begins, round_steps, trims, reads, Call, opening, confirm, change, service, read, Event, call, World, unopened, empty_store, Formatting, after_format, ends, is_opening, step, after, AllAllowed}
-use Rattle.acts.specs.Units.{Act, plain, transacts, fetches, revises, transact_ends, fetch_ends, revise_ends, left_under, act, acted, ActAllowed, AllActsAllowed, expand, expand_all}
-use Rattle.abstract_store.specs.Store.{Store, new_store, list_of, reply_of, follow}
+use Rattle.model.specs.History.{Service, settles, round_begins, round_steps, trims, reads, Call, opening, confirm, change, service, read, Event, call, World, Formatting, after_format, ends, is_opening, step, after}
+use Rattle.acts.specs.Units.{Act, fetch_ends, revise_ends, left_under, act, acted, ActAllowed, AllActsAllowed, expand, expand_all}
+use Rattle.abstract_store.specs.Store.{Store, new_store, follow}
 use Rattle.theorems.specs.Isolation.{Each, both, more, StoreAlike, CallAlike, equal, stored, Denied, DeniedThroughout, followed}
 use Rattle.theorems.specs.IsolatedActs.{ActAlike, called, transacted, fetched, revised, BeforeAlike, differs, shares, answer_of, block_of_service, block_of_read, blocks_of, SameThroughout, followed_acts, ActsIsolated, IsolatedFromFormat}
 use Rattle.theorems.proofs.steps.FormatRuns.{after-format}

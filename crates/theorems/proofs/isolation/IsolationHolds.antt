@@ -1,9 +1,7 @@
 -- Rights keep what a writer may not read from it: from the answers of the abstract store, demand 2 and the invariant, by which the blocks of all commits
 -- have 64 bytes.
-use mathlib.Core.Path.{◌≡◌}
-use mathlib.Core.List.{List}
-use Rattle.model.specs.History.{World, after_format, after, AllAllowed, calls}
-use Rattle.abstract_store.specs.Store.{Store, new_store}
+use Rattle.model.specs.History.{after_format, after, calls}
+use Rattle.abstract_store.specs.Store.{new_store}
 use Rattle.theorems.specs.Isolation.{followed, Isolation}
 use Rattle.theorems.proofs.store.Reached.{begins, allowed-split, goes-along}
 use Rattle.theorems.proofs.isolation.AlikeHistories.{told-throughout}

@@ -1,9 +1,9 @@
 -- The two histories of specs/HiddenTogether are told so, by computation; and they meet the premises of `IsolatedFromFormat`, which therefore says something of
 -- them.
 use Prim.Native.Nat.{ℕ, zero, suc, ◌+◌, ◌*◌, ◌/◌, ◌<◌}
-use mathlib.Core.Path.{◌≡◌, refl, sym, ap, ◌∙◌}
-use mathlib.Core.Bool.{Bool, true, false, not, ◌&&◌, false≢true}
-use mathlib.Core.List.{List, [], ◌∷◌, ◌++◌}
+use mathlib.Core.Path.{◌≡◌, refl, sym}
+use mathlib.Core.Bool.{Bool, true, false, false≢true}
+use mathlib.Core.List.{List, ◌++◌}
 use native.Mathlib.Omega.{arith}
 use lib.ListN.{length}
 use borrow.Author.Tests.{leb-true}
@@ -13,14 +13,14 @@ use Rattle.model.specs.Newest.{carry_listed}
 use Rattle.model.specs.Rights.{for_home, shown_at, list_by, store_list, read_list, of_list, is_list, in_range, in_ranges, may_store, may_read, same_listed, list_moved, sign_for, sign_if, keep_list, signed_list, right_to_store, right_to_read}
 use Rattle.model.specs.Questions.{store_allowed, read_allowed}
 use Rattle.model.specs.examples.Trials.{room, fill}
-use Rattle.model.specs.History.{begin, store, commit, flush, call, World, after_format, empty_store, is_opening}
+use Rattle.model.specs.History.{store, after_format, empty_store}
 use Rattle.acts.specs.Many.{blocks_lent, lent_on, and_then, stored_first, transact_effect, blocks_read, fetch_effect, blocks_right, homes_known, all_of, may_store_all, may_read_all, room_for_all, ask_homes, fetch_answer, revise_answer, transact_answer, fetch_call, revise_call, transact_call}
-use Rattle.acts.specs.Units.{Act, plain, transacts, fetches, revises, transact_ends, fetch_ends, revise_ends, feed_stores, feed_transact, left_under, act, acted, AllActsAllowed, stores_from, chain, expand, expand_all, roomy}
+use Rattle.acts.specs.Units.{transact_ends, fetch_ends, revise_ends, feed_stores, feed_transact, left_under, act, acted, AllActsAllowed, stores_from, chain, expand, expand_all, roomy}
 use Rattle.abstract_store.specs.Store.{Store, new_store, group_of_first, numbered, with_round, list_of, last_after, fenced_after, set_for, promises_after, store_must_log, reply_of, told, after_reply, follow, after_service}
 use Rattle.abstract_store.specs.Store as abstract-store
-use Rattle.theorems.specs.Isolation.{Each, both, more, CallAlike, equal, stored, followed, DeniedThroughout}
+use Rattle.theorems.specs.Isolation.{Each, both, more, CallAlike, equal, stored, followed}
 use Rattle.theorems.specs.IsolatedActs.{BlocksAlike, ActAlike, called, transacted, fetched, revised, BeforeAlike, differs, shares, answer_of, block_of_service, block_of_read, blocks_of, SameThroughout, followed_acts}
-use Rattle.theorems.specs.Hidden.{range_of, first_writers, next_writers, unformatted, first_opening, fourth}
+use Rattle.theorems.specs.Hidden.{range_of, first_writers, next_writers, first_opening, fourth}
 use Rattle.theorems.specs.HiddenTogether.{shared_before, shared_after, numbers, answers_in, blocks_in, shared_world, answers_shared, blocks_of_one, together_hidden, together_shown}
 use Rattle.theorems.proofs.steps.FormatRuns.{after-format}
 use Rattle.model.proofs.examples.Computing.{all-definitions}

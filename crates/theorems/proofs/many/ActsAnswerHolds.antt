@@ -1,17 +1,17 @@
 -- Every call of every history with calls on several homes answers what the abstract store says. Assumes nothing.
-use Prim.Native.Nat.{ℕ, ◌-◌, ◌≤◌, ◌<◌}
-use mathlib.Core.Path.{◌≡◌, refl, sym, ap, ◌∙◌, subst}
+use Prim.Native.Nat.{ℕ, ◌-◌, ◌<◌}
+use mathlib.Core.Path.{◌≡◌, sym, ap, ◌∙◌, subst}
 use mathlib.Core.Logic.{inl, inr}
-use mathlib.Core.Bool.{Bool, true, false, not, false≢true}
+use mathlib.Core.Bool.{true, not, false≢true}
 use mathlib.Core.List.{List, [], ◌∷◌}
-use Rattle.model.specs.State.{state_of, places, promised, free_places, writer_of, is_open_now, list_sign}
+use Rattle.model.specs.State.{promised, free_places, writer_of, is_open_now, list_sign}
 use Rattle.model.specs.Effects.{homes}
 use Rattle.model.specs.Rights.{may_read, right_to_read, read_list}
 use Rattle.model.specs.Questions.{writer_open, read_allowed}
 use Rattle.model.specs.NewestTrue.{NewestTrue}
 use Rattle.model.specs.History.{Event, World, Formatting, empty_store, after_format, lent, step, after, AllAllowed}
 use Rattle.abstract_store.specs.Store.{Store, new_store, places_left, free_left, is_idle, list_of, follow}
-use Rattle.acts.specs.Units.{expand_all, acted}
+use Rattle.acts.specs.Units.{expand_all}
 use Rattle.acts.specs.Replies.{Agreeing, ManyAnswer}
 use Rattle.acts.proofs.RepliesHold.{agreeing-answer}
 use Rattle.theorems.specs.Isolation.{followed}

@@ -1,14 +1,14 @@
 -- One call more of a transact, and what it leaves and is told: the world, its records and their bytes. Assumes nothing.
 use Prim.Native.Nat.{ℕ, ◌+◌}
 use mathlib.Core.Path.{◌≡◌, refl, sym, ap, ◌∙◌, subst}
-use mathlib.Core.Bool.{true, cond, not}
+use mathlib.Core.Bool.{true, cond}
 use mathlib.Core.List.{List, [], ◌∷◌, ◌++◌, append_assoc}
 use native.Mathlib.Omega.{arith}
 use lib.Dec.{eqb}
 use lib.ListN.{length, take, length-append}
 use borrow.Author.Tests.{eq-eqb}
 use Rattle.model.specs.Batch.{batch_bytes, read_batch}
-use Rattle.model.specs.Effects.{Given, Effect, homes, new_state, tags_of, live_base, log_held, log_closing, store_first, store_again, store_other, kept_commit, commit_held, abort_effect, store_effect, commit_effect}
+use Rattle.model.specs.Effects.{Given, Effect, new_state, tags_of, live_base, log_held, log_closing, store_first, store_again, store_other, kept_commit, commit_held, abort_effect, store_effect, commit_effect}
 use Rattle.model.specs.Questions.{store_answer, commit_answer}
 use Rattle.model.specs.Calls.{done, outcome, size_of, store_call, commit_call}
 use Rattle.acts.specs.Many.{lent_on, and_then}

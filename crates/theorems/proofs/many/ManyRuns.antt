@@ -9,11 +9,11 @@ use lib.ListN.{length, take}
 use borrow.Author.Tests.{le-leb, ltb-true}
 use Rattle.model.specs.Bytes.{part}
 use Rattle.model.specs.Batch.{batch_bytes, read_batch}
-use Rattle.model.specs.State.{list_sign, free_places}
-use Rattle.model.specs.Effects.{Given, Effect, homes, new_state, tags_of, live_base, log_held, log_closing, store_first, store_again, store_other, kept_commit, commit_held, abort_effect, begin_effect, reserve_effect, store_effect, commit_effect}
+use Rattle.model.specs.State.{list_sign}
+use Rattle.model.specs.Effects.{Given, Effect, homes, new_state, begin_effect, reserve_effect, store_effect, commit_effect}
 use Rattle.model.specs.Rights.{may_store, right_to_store, read_list}
-use Rattle.model.specs.Questions.{ask, areas_right, state_right, state_in_order, writer_known, writer_open, may_promise, ask_state, begin_answer, reserve_answer, store_answer, commit_answer, batch_fits}
-use Rattle.model.specs.Calls.{Outcome, done, outcome, size_of, begin_call, reserve_call, store_call, commit_call}
+use Rattle.model.specs.Questions.{ask, areas_right, state_right, state_in_order, writer_known, writer_open, may_promise, ask_state, begin_answer, reserve_answer, batch_fits}
+use Rattle.model.specs.Calls.{Outcome, done, outcome, size_of, begin_call, reserve_call}
 use Rattle.acts.specs.Many.{blocks_lent, lent_on, and_then, stored_first, transact_effect, may_store_all, room_for_all, transact_answer, transact_call}
 use Rattle.model.specs.Book.{Book}
 use Rattle.model.specs.History.{Call, begin, reserve, store, commit, call, World, lent, ends, change_ends, feed, feed_change, is_opening, is_confirm, step, after as played, Allowed, AllAllowed}

@@ -11,7 +11,7 @@ use Rattle.model.specs.Bytes.{part, zeros}
 use Rattle.model.specs.Rights.{may_store}
 use Rattle.model.specs.Book.{Task, Book, with_task, filled_up, submit, grown, store_task}
 use Rattle.model.specs.Book as book
-use Rattle.model.specs.History.{commits, begin, reserve, store, commit, feed, feed_change}
+use Rattle.model.specs.History.{begin, reserve, store, commit, feed, feed_change}
 use Rattle.abstract_store.specs.Store.{Store, group_of_first, next_group, next_of, places_left, promised_to, free_left, has_room_left, entry_bytes, is_idle, store_must_log, commit_must_log, list_of, told, ask_batch, reply_change, reply, set_for, promises_after, numbered}
 use Rattle.abstract_store.specs.Store as abstract
 use Rattle.acts.specs.Units.{roomy, feed_stores}

@@ -21,7 +21,7 @@ use Rattle.model.specs.Book.{Task, commit_task, with_task, with_commits}
 use Rattle.model.specs.Book as book
 use Rattle.abstract_store.specs.Store.{Store, new_store, numbered, follow}
 use Rattle.abstract_store.specs.Store as store
-use Rattle.model.specs.History.{commits, Call, opening, confirm, change, service, commit, trim, Event, call, crash, World, empty_store, unopened, lent, loaded, ends, change_ends, service_ends, feed, feed_change, is_opening, after_done, after_crash, step, Allowed}
+use Rattle.model.specs.History.{Call, opening, confirm, change, service, commit, trim, Event, call, crash, World, empty_store, unopened, lent, loaded, ends, change_ends, service_ends, feed, feed_change, is_opening, after_done, after_crash, step, Allowed}
 use Rattle.model_laws.proofs.bytes.LayoutLaws.{homes_in}
 use Rattle.model_laws.proofs.state.NewestLaws.{Keepable, kept-else, kept-entries, kept-forget, kept-nothing}
 use Rattle.model_laws.proofs.state.QuestionLaws.{Roomy, room-true, CommitReady, commit-ready}

@@ -1,31 +1,19 @@
 -- The newest positions are true at every moment after a done opening, and a read, which uses them, gives what it gave while it searched the log.
-use Prim.Native.Nat.{ℕ, ◌+◌, ◌-◌, ◌*◌, ◌≤◌, ◌<◌}
-use mathlib.Core.Path.{◌≡◌, refl, sym, ap, ◌∙◌, subst}
+use Prim.Native.Nat.{ℕ, ◌+◌, ◌*◌, ◌≤◌, ◌<◌}
+use mathlib.Core.Path.{◌≡◌, sym, ap, ◌∙◌, subst}
 use mathlib.Core.Logic.{inl, inr}
-use mathlib.Core.Bool.{Bool, true, false, cond, ◌&&◌, false≢true}
+use mathlib.Core.Bool.{true, false≢true}
 use mathlib.Core.List.{List, [], ◌∷◌}
-use mathlib.Core.Option.{Option, none, some}
-use native.Mathlib.Omega.{arith}
-use lib.Dec.{eqb, leb}
 use lib.ListN.{length}
-use borrow.Author.Tests.{le-leb, lt-ltb, le-ltb}
-use Rattle.model.specs.Tag.{present, home_of}
-use Rattle.model.specs.declared.Tag.{Tag}
 use Rattle.model.specs.Layout.{home_at}
-use Rattle.model.specs.Commit.{newest_in, or_else, newest}
-use Rattle.model.specs.State.{state_of, next_position, list_home}
-use Rattle.model.specs.Newest.{no_position, kept_as, kept_for}
-use Rattle.model.specs.Effects.{Given, live_tags, live_base, newest_committed, current, own_else, visible, is_there, kept_position, shown}
+use Rattle.model.specs.State.{list_home}
+use Rattle.model.specs.Newest.{kept_as}
 use Rattle.model.specs.Book.{homes_after}
-use Rattle.model.specs.History.{Event, World, empty_store, unopened, lent, step, Allowed, AllAllowed}
+use Rattle.model.specs.History.{Event, World, empty_store, unopened, step, Allowed, AllAllowed}
 use Rattle.model.specs.NewestTrue.{NewestTrue, NewestThroughout, NewestKept}
-use Rattle.model_laws.proofs.trace.TraceLaws.{All}
 use Rattle.theorems.proofs.invariant.Invariant.{Sizes, Running, Invariant}
-use Rattle.theorems.proofs.invariant.LiveLog.{tags_in, base_of, end_of, kept_in, Shown, all-each, live-from, live-room, lent-tags, live-transactions, kept-shown}
-use Rattle.theorems.proofs.invariant.NewestBook.{last_committed, HomeIn, newest-committed}
 use Rattle.theorems.proofs.steps.FormatRuns.{from-format}
 use Rattle.theorems.proofs.steps.Beginning.{format-closed}
-use Rattle.theorems.proofs.demands.LiveHolds.{current-is}
 use Rattle.theorems.proofs.demands.DemandThree.{keeps}
 use Rattle.theorems.proofs.rights.ListedSteps.{Listed, listed-keeps}
 use Rattle.theorems.proofs.newest.NewestFollows.{Placed, NewestAlong, along-keeps, along-begins}

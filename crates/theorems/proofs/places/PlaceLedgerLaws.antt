@@ -1,17 +1,16 @@
 -- Laws of the ledger of places (specs/Places) and of the book's entries by position. Assumes nothing.
-use Prim.Native.Nat.{ℕ, zero, suc, ◌+◌, ◌-◌, ◌*◌, ◌≤◌, ◌<◌}
-use mathlib.Core.Path.{◌≡◌, refl, sym, ap, ◌∙◌, subst}
-use mathlib.Core.Bool.{Bool, true, false, cond, not, ◌&&◌, ◌||◌, or-false, false≢true}
+use Prim.Native.Nat.{ℕ, zero, suc, ◌+◌, ◌-◌, ◌*◌, ◌≤◌}
+use mathlib.Core.Path.{◌≡◌, refl, sym, ap, ◌∙◌}
+use mathlib.Core.Bool.{Bool, true, false, cond, ◌||◌}
 use mathlib.Core.List.{List, [], ◌∷◌, ◌++◌}
-use mathlib.Core.Option.{Option, none, some}
-use native.Mathlib.Decide.{ℕ_discrete, dec_le}
+use native.Mathlib.Decide.{dec_le}
 use native.Mathlib.Omega.{arith}
 use lib.Dec.{eqb, leb}
 use lib.ListN.{length, replicate}
-use borrow.Author.Tests.{eqb-true, eqb-false, eq-eqb, ne_eqb, le-leb, lt-leb}
-use Rattle.model.specs.Book.{Landing, row, persisted, Entry, Commit, Task, idle, opened, Book, owed_by, all_owed}
+use borrow.Author.Tests.{eqb-true, ne_eqb, le-leb, lt-leb}
+use Rattle.model.specs.Book.{Entry, Commit, owed_by, all_owed}
 use Rattle.abstract_store.specs.Store.{Store, next_of, group_of_first}
-use Rattle.abstract_store.specs.Places.{Fate, held, kept, aborted, passed, settle_one, settle_all, Class, live, dead, free, class_of, fate_on, class_at, same_class, many, lies_at, any_at, task_at, commit_at, is_held, is_kept}
+use Rattle.abstract_store.specs.Places.{Fate, held, kept, aborted, passed, settle_one, settle_all, Class, live, dead, free, class_of, fate_on, class_at, same_class, many, lies_at, any_at, commit_at, is_held, is_kept}
 use Rattle.theorems.proofs.invariant.Invariant.{OldEntries, OldCommits}
 
 -- ---- the ledger by position

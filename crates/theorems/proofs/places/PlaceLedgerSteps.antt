@@ -1,14 +1,14 @@
 -- The ledger of places agrees with the book, and goes on agreeing with it call by call. Assumes nothing.
-use Prim.Native.Nat.{ℕ, zero, suc, ◌+◌, ◌-◌, ◌*◌, ◌≤◌, ◌<◌}
+use Prim.Native.Nat.{ℕ, suc, ◌+◌, ◌-◌, ◌*◌, ◌≤◌, ◌<◌}
 use mathlib.Core.Path.{◌≡◌, refl, sym, ap, ◌∙◌, subst}
-use mathlib.Core.Bool.{Bool, true, false, cond, not, ◌&&◌, ◌||◌, or-false, false≢true}
+use mathlib.Core.Bool.{Bool, true, false, cond, not, ◌||◌, or-false, false≢true}
 use mathlib.Core.List.{List, [], ◌∷◌, ◌++◌}
 use mathlib.Core.Option.{Option, none, some}
 use native.Mathlib.Omega.{arith}
-use lib.Dec.{eqb, leb}
+use lib.Dec.{eqb}
 use lib.ListN.{length, replicate}
 use borrow.Author.Tests.{eqb-true, eqb-false, eq-eqb, ne_eqb}
-use Rattle.model.specs.Book.{Landing, row, persisted, Entry, Commit, Held, Task, idle, opened, Book, set_task, with_task, begin, abort, entry_of, submit, grown, filled_up, hold, store_task, store, add_commit, commit_task, commit, flush, owed_by, all_owed, with_commits}
+use Rattle.model.specs.Book.{Entry, Commit, Held, Task, idle, opened, Book, set_task, with_task, begin, abort, entry_of, submit, grown, filled_up, hold, store_task, store, add_commit, commit_task, commit, flush, owed_by, all_owed, with_commits}
 use Rattle.abstract_store.specs.Store.{is_idle, store_must_log, commit_must_log}
 use Rattle.abstract_store.specs.Places.{Fate, held, kept, aborted, passed, settle_one, settle_all, fate_on, lies_at, any_at, task_at, commit_at, is_held, is_kept}
 use Rattle.theorems.proofs.places.PlaceLedgerLaws.{fate-past, length-settle, fate-settle, length-passed, fate-passed, push-held, push_kept, held-other, held-own, kept-aborted, kept-kept, any_append, commits-append, owed-at, owed-all-at, old-at}

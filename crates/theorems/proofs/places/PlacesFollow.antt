@@ -1,5 +1,5 @@
 -- Every event keeps the ledger of places in step with the book. Assumes nothing.
-use Prim.Native.Nat.{ℕ, zero, suc, ◌+◌, ◌-◌, ◌*◌, ◌≤◌, ◌<◌}
+use Prim.Native.Nat.{ℕ, zero, suc, ◌+◌, ◌*◌, ◌≤◌, ◌<◌}
 use mathlib.Core.Path.{◌≡◌, refl, sym, ap, ◌∙◌, subst}
 use mathlib.Core.Logic.{inl, inr}
 use mathlib.Core.Bool.{Bool, true, false, not, ◌||◌, false≢true}
@@ -23,7 +23,6 @@ use Rattle.model_laws.proofs.state.QuestionLaws.{ask-passed, and-true, store-rea
 use Rattle.theorems.proofs.invariant.Invariant.{Sizes, Running, Closed, Invariant}
 use Rattle.theorems.proofs.steps.RefusalLaws.{step-refused}
 use Rattle.theorems.proofs.steps.DoneLaws.{outcome-code}
-use Rattle.theorems.proofs.demands.DemandThree.{keeps}
 use Rattle.theorems.proofs.demands.TrimYields.{trimmed, none_open}
 use Rattle.theorems.proofs.store.StoreAgrees.{Agrees, filled_is, position-is}
 use Rattle.theorems.proofs.store.ServiceAnswers.{may-is, start_is}

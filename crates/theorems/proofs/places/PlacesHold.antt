@@ -1,8 +1,8 @@
 -- Places are accounted for at every moment, and a log with no open transaction drains. Assumes nothing.
-use Prim.Native.Nat.{ℕ, ◌-◌}
+use Prim.Native.Nat.{ℕ}
 use mathlib.Core.Path.{◌≡◌, sym, ◌∙◌}
 use mathlib.Core.Logic.{inl, inr}
-use mathlib.Core.Bool.{true, false, false≢true}
+use mathlib.Core.Bool.{true, false≢true}
 use mathlib.Core.List.{List, [], ◌∷◌}
 use Rattle.model.specs.History.{Event, World, unopened, empty_store, step, AllAllowed}
 use Rattle.abstract_store.specs.Store.{Store, new_store, follow}

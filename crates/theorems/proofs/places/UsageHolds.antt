@@ -1,32 +1,30 @@
 -- At every moment after a done opening the numbers of usage are the ledger's, and its holder is the open transaction that lies lowest. Assumes nothing.
 use Prim.Native.Nat.{ℕ, zero, suc, ◌+◌, ◌-◌, ◌*◌, ◌≤◌, ◌<◌}
 use mathlib.Core.Path.{◌≡◌, refl, sym, ap, ◌∙◌, subst}
-use mathlib.Core.Logic.{◌⊎◌, inl, inr}
+use mathlib.Core.Logic.{inl, inr}
 use mathlib.Core.Bool.{Bool, true, false, cond, ◌||◌, false≢true}
-use mathlib.Core.List.{List, [], ◌∷◌, ◌++◌}
+use mathlib.Core.List.{List, [], ◌∷◌}
 use native.Mathlib.Omega.{arith}
-use lib.Dec.{eqb, leb}
+use lib.Dec.{leb}
 use lib.ListN.{length}
-use borrow.Author.Tests.{leb-true, leb-false, le-leb, lt-leb}
+use borrow.Author.Tests.{leb-true, leb-false, le-leb}
 use Rattle.model.specs.declared.Tag.{Tag}
 use Rattle.model.specs.Commit.{transactions}
-use Rattle.model.specs.State.{state_of, next_position, places, promised, writer_of, held_of, has_logged, count_for}
-use Rattle.model.specs.declared.State.{State}
+use Rattle.model.specs.State.{state_of, places, writer_of, held_of, has_logged, count_for}
 use Rattle.model.specs.declared.Writer.{Writer}
-use Rattle.model.specs.Effects.{Given, groups, live_tags, live_base}
-use Rattle.model.specs.Questions.{ask_state}
-use Rattle.model.specs.Book.{Commit, Task, idle, opened, Book}
-use Rattle.model.specs.History.{Event, World, empty_store, unopened, lent, step, AllAllowed}
-use Rattle.abstract_store.specs.Store.{Store, new_store, group_of_first, places_left, promised_to, follow}
+use Rattle.model.specs.Effects.{Given, groups, live_base}
+use Rattle.model.specs.Book.{Task, Book}
+use Rattle.model.specs.History.{Event, World, empty_store, lent, step, AllAllowed}
+use Rattle.abstract_store.specs.Store.{Store, new_store, group_of_first, follow}
 use Rattle.abstract_store.specs.Places.{Fate, live, dead, free, many, any_at, task_at, commit_at, enter_event, Accounted, HeldBack, PlacesTold, AccountedThroughout}
 use Rattle.abstract_store.specs.Usage.{entries_in, committed_entries, open_entries, holder_of, usage_of, usage_if, usage_call, Usages, UsageThroughout, UsageTold}
 use Rattle.model.specs.declared.Usage.{Usage}
 use Rattle.model.specs.declared.Holder.{Holder}
 use Rattle.model_laws.proofs.trace.Trace.{Ev, hist, oldest_of}
 use Rattle.model_laws.proofs.trace.TraceLaws.{All, Falling, Long, open-falling, done-falling, done-long}
-use Rattle.abstract_store.proofs.PlaceCounts.{one_if, one-false, times, times_in, tally, Once, once, tally-same, tally-both, tally-none, tally-all, tally-closing, falling-from}
-use Rattle.theorems.proofs.invariant.Invariant.{Sizes, entries_for, TaskOk, Running, Invariant}
-use Rattle.theorems.proofs.invariant.LiveLog.{tags_in, base_of, end_of, kept_in, live-room, live-from, lent-groups, lent-tags, live-transactions}
+use Rattle.abstract_store.proofs.PlaceCounts.{one_if, one-false, times, times_in, tally, once, tally-same, tally-both, tally-none, tally-all, tally-closing, falling-from}
+use Rattle.theorems.proofs.invariant.Invariant.{Sizes, TaskOk, Running, Invariant}
+use Rattle.theorems.proofs.invariant.LiveLog.{base_of, end_of, kept_in, live-room, lent-groups, lent-tags, live-transactions}
 use Rattle.theorems.proofs.steps.Beginning.{format-closed}
 use Rattle.theorems.proofs.steps.FormatRuns.{sizes, after-format}
 use Rattle.theorems.proofs.demands.DemandThree.{keeps}

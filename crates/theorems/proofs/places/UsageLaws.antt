@@ -1,10 +1,9 @@
 -- Live places, one by one: by the ledger, by the book and by the trace; and the writer that holds a log back, by the strip. Assumes nothing.
 use Prim.Native.Nat.{ℕ, zero, suc, ◌+◌, ◌-◌, ◌*◌, ◌/◌, ◌%◌, ◌≤◌, ◌<◌}
 use mathlib.Core.Path.{◌≡◌, refl, sym, ap, ◌∙◌, subst}
-use mathlib.Core.Logic.{◌⊎◌, inl, inr}
 use mathlib.Core.Bool.{Bool, true, false, cond, ◌&&◌, ◌||◌, or-false, false≢true}
 use mathlib.Core.List.{List, [], ◌∷◌, ◌++◌}
-use native.Mathlib.Decide.{ℕ_discrete, dec_le, dec_lt}
+use native.Mathlib.Decide.{ℕ_discrete, dec_lt}
 use native.Mathlib.Omega.{arith}
 use lib.Dec.{eqb, leb, ltb}
 use lib.ListN.{length, replicate}
@@ -17,12 +16,12 @@ use Rattle.model.specs.Calls.{size_of, store_call}
 use Rattle.model.specs.Book.{Entry, Commit, Task}
 use Rattle.model.specs.History.{Change, begins, reserves, aborts, stores, commits, flushes, Call, opening, confirm, change, service, Event, call, crash, World, lent, ends, change_ends}
 use Rattle.abstract_store.specs.Store.{Store, group_of_first, next_of, store_must_log, commit_must_log}
-use Rattle.abstract_store.specs.Places.{Fate, held, kept, aborted, passed, settle_one, settle_all, enter, enter_call, enter_event, Class, live, dead, free, class_of, fate_on, class_at, same_class, many, lies_at, any_at, task_at, commit_at, is_held, is_kept, Accounted}
+use Rattle.abstract_store.specs.Places.{Fate, held, kept, aborted, passed, settle_one, settle_all, enter, enter_call, enter_event, live, free, class_of, fate_on, class_at, same_class, many, lies_at, any_at, task_at, commit_at, is_held, is_kept, Accounted}
 use Rattle.abstract_store.specs.Usage.{no_holder, holds_lower, holder_of}
 use Rattle.model.specs.declared.Holder.{Holder}
 use Rattle.model_laws.proofs.state.QuestionLaws.{store-ready}
 use Rattle.model_laws.proofs.trace.Trace.{Ev, first_of, oldest_of}
-use Rattle.model_laws.proofs.trace.TraceLaws.{All, Falling, Long, first_of-inside}
+use Rattle.model_laws.proofs.trace.TraceLaws.{All, Falling, Long}
 use Rattle.abstract_store.proofs.PlaceCounts.{one_if, one-true, one-false, times, times_in, tally}
 use Rattle.theorems.proofs.invariant.Invariant.{entry_for, entries_for, Matches}
 use Rattle.theorems.proofs.steps.DoneLaws.{outcome-code}

@@ -1,27 +1,24 @@
 -- Places promised beforehand (specs/Reserved), for every history. Assumes nothing.
-use Prim.Native.Nat.{ℕ, zero, suc, ◌+◌, ◌-◌, ◌*◌, ◌≤◌, ◌<◌}
-use mathlib.Core.Path.{◌≡◌, refl, sym, ap, ◌∙◌}
+use Prim.Native.Nat.{ℕ, ◌+◌, ◌-◌, ◌*◌, ◌≤◌, ◌<◌}
+use mathlib.Core.Path.{◌≡◌, refl, sym, ◌∙◌}
 use mathlib.Core.Logic.{◌⊎◌, inl, inr, ◌↔◌, ◌≢◌}
 use mathlib.Core.Bool.{Bool, true, false, not, ◌&&◌, ◌||◌, false≢true}
 use mathlib.Core.List.{List, [], ◌∷◌}
 use native.Mathlib.Omega.{arith}
-use lib.Dec.{eqb, leb, ltb}
-use lib.ListN.{length}
-use borrow.Author.Tests.{le-leb, lt-leb, lt-ltb, ne_eqb, eq-eqb, leb-true, leb-false, eqb-true, eqb-false}
+use lib.Dec.{eqb, leb}
+use borrow.Author.Tests.{le-leb, lt-ltb, leb-true, leb-false, eqb-true, eqb-false}
 use Rattle.model.specs.Bytes.{same}
-use Rattle.model.specs.State.{state_of, promise_of, promised, places, free_places, writer_of, is_open_now, state_bytes, is_in_order}
-use Rattle.model.specs.declared.State.{State}
+use Rattle.model.specs.State.{state_of, promise_of, promised, free_places, writer_of, is_open_now}
 use Rattle.model.specs.declared.Writer.{Writer}
-use Rattle.model.specs.Layout.{group_count, home_count}
-use Rattle.model.specs.Effects.{Given, Effect, store_effect, commit_effect, flush_effect, reserve_effect}
-use Rattle.model.specs.Questions.{ask, areas_right, state_right, block_right, state_in_order, writer_known, is_home_known, writer_open, room_for, room, may_promise, keeps_promises, store_logs, commit_logs, batch_fits, ask_state, ask_newest, ask_block, reserve_answer, store_answer, commit_answer, flush_answer}
+use Rattle.model.specs.Effects.{Given, store_effect, commit_effect, flush_effect, reserve_effect}
+use Rattle.model.specs.Questions.{ask, areas_right, state_right, state_in_order, writer_known, writer_open, room_for, room, may_promise, keeps_promises, store_logs, commit_logs, batch_fits, ask_state, ask_newest, ask_block, reserve_answer, store_answer, commit_answer, flush_answer}
 use Rattle.model.specs.Calls.{size_of, reserve_call, store_call, commit_call, flush_call}
-use Rattle.model.specs.Book.{Task, idle, opened}
+use Rattle.model.specs.Book.{idle}
 use Rattle.model.specs.History.{reserve, store, commit, flush, Event, World, lent, ends, change_ends, step, AllAllowed, unopened, empty_store}
 use Rattle.model.specs.Reserved.{none, grant, entries_of, Promised, PromisedThroughout, ReservedKept, filling, busy_log}
 use Rattle.model_laws.proofs.bytes.LayoutLaws.{groups-in, homes_in, log-length-right, data-length-right}
-use Rattle.model_laws.proofs.state.OrderLaws.{InOrder, order-in, tests}
-use Rattle.model_laws.proofs.state.QuestionLaws.{ask-no, ask-yes, ask-passed, keeps-promises}
+use Rattle.model_laws.proofs.state.OrderLaws.{order-in}
+use Rattle.model_laws.proofs.state.QuestionLaws.{ask-no, ask-yes}
 use Rattle.model_laws.proofs.trace.Trace.{Ev}
 use Rattle.theorems.proofs.invariant.Invariant.{Sizes, TaskOk, Running, Invariant}
 use Rattle.theorems.proofs.steps.DoneLaws.{outcome-code}

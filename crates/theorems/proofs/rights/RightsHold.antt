@@ -1,5 +1,5 @@
 -- What store and read ask of the list of rights is what the book's committed list says, where the newest positions are true. Assumes nothing.
-use Prim.Native.Nat.{ℕ, ◌+◌, ◌*◌, ◌≤◌, ◌<◌}
+use Prim.Native.Nat.{ℕ, ◌+◌, ◌≤◌, ◌<◌}
 use mathlib.Core.Path.{◌≡◌, refl, sym, ap, ◌∙◌, subst}
 use mathlib.Core.List.{List, []}
 use native.Mathlib.Decide.{dec_lt}
@@ -8,9 +8,9 @@ use Rattle.model.specs.Layout.{home_at}
 use Rattle.model.specs.State.{list_home, listed_of, list_sign}
 use Rattle.model.specs.Newest.{kept_for}
 use Rattle.model.specs.Effects.{Given, homes, kept_position, shown}
-use Rattle.model.specs.Rights.{for_home, shown_at, list_by, store_list, read_list, may_store, may_read, right_to_store, right_to_read, Faithful}
+use Rattle.model.specs.Rights.{for_home, shown_at, store_list, read_list, may_store, may_read, right_to_store, right_to_read, Faithful}
 use Rattle.model.specs.Questions.{store_allowed, read_allowed}
-use Rattle.model.specs.Book.{Book, homes_after}
+use Rattle.model.specs.Book.{homes_after}
 use Rattle.model.specs.History.{Change, begins, reserves, aborts, stores, commits, flushes, Service, settles, round_begins, round_steps, trims, reads, Call, opening, confirm, change, service, World, lent}
 use Rattle.abstract_store.specs.Store.{Store, list_of}
 use Rattle.model.specs.NewestTrue.{NewestTrue}

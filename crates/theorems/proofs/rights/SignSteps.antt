@@ -16,7 +16,7 @@ use Rattle.model.specs.Rights.{read_list, list_moved, sign_for, keep_list, Faith
 use Rattle.model.specs.Calls.{Outcome, done}
 use Rattle.model.specs.Book.{homes_after, with_commits}
 use Rattle.model.specs.Book as book
-use Rattle.model.specs.History.{commits, Call, opening, confirm, change, service, commit, trim, Event, call, crash, World, lent, loaded, ends, feed, feed_change, is_opening, after_done, after_crash, step, Allowed}
+use Rattle.model.specs.History.{Call, opening, confirm, change, service, commit, trim, Event, call, crash, World, lent, loaded, ends, feed, feed_change, is_opening, after_done, after_crash, step, Allowed}
 use Rattle.model_laws.proofs.state.ListedLaws.{listed-set_start, listed-set_fenced, listed-set_last, listed-set_writer, listed-set_promise}
 use Rattle.model_laws.proofs.state.NewestLaws.{length-entries, length-forget}
 use Rattle.model_laws.proofs.state.SignLaws.{sign-fresh, sign-listed, sign-carry, sign-stays, sign-moves, none-moved, list-numbers, sign-faithful, state-keep_list}
@@ -30,7 +30,7 @@ use Rattle.theorems.proofs.store.StoreAgrees.{Agrees}
 use Rattle.theorems.proofs.demands.YieldsAll.{step_by}
 use Rattle.theorems.proofs.steps.Rows.{row_of, row-state}
 use Rattle.theorems.proofs.steps.Footprint.{lists, committed, Touch, lists-open, lists-commit, lists-trim, committed-open, committed-confirm, committed-commit, Spares, frame, logged-listed, abort-leaves}
-use Rattle.theorems.proofs.newest.NewestFollows.{Placed, NewestAlong, idle-commits, ready, known, ended, held-effect, held-mode, held-roomy, placed-then}
+use Rattle.theorems.proofs.newest.NewestFollows.{Placed, NewestAlong, idle-commits, known, ended, held-effect, held-mode, held-roomy, placed-then}
 use Rattle.theorems.proofs.newest.NewestShown.{list-shown, same-list}
 use Rattle.theorems.proofs.rights.ListedSteps.{Listed}
 use Rattle.abstract_store.specs.Store.{Store}

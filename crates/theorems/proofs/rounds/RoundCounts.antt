@@ -1,18 +1,17 @@
 -- A step that leaves homes leaves k fewer. Assumes nothing.
-use Prim.Native.Nat.{ℕ, zero, suc, ◌+◌, ◌-◌, ◌*◌, ◌≤◌, ◌<◌}
+use Prim.Native.Nat.{ℕ, zero, suc, ◌+◌, ◌≤◌, ◌<◌}
 use mathlib.Core.Path.{◌≡◌, refl, sym, ap, ◌∙◌}
 use mathlib.Core.Bool.{Bool, true, false, cond, ◌&&◌}
-use mathlib.Core.List.{List, [], ◌∷◌, ◌++◌, append-nil}
+use mathlib.Core.List.{List, [], ◌∷◌}
 use native.Mathlib.Decide.{dec_le}
 use native.Mathlib.Omega.{arith}
 use lib.Dec.{leb}
-use lib.ListN.{length, take, length-append}
+use lib.ListN.{length, length-append}
 use lib.Seq.{length-take-le}
-use borrow.Author.Tests.{leb-true, leb-false, le-leb, lt-leb}
-use Rattle.model.specs.Commit.{transactions, newest, found}
+use borrow.Author.Tests.{leb-true, le-leb, lt-leb}
+use Rattle.model.specs.Commit.{newest, found}
 use Rattle.model.specs.State.{state_of, fixed_in}
-use Rattle.model.specs.declared.State.{State}
-use Rattle.model.specs.Effects.{Given, groups, homes, marked, touched_from, live_tags, live_base, round_transactions, round_homes, tags_of}
+use Rattle.model.specs.Effects.{homes, marked, touched_from, live_tags, live_base, round_transactions, round_homes, tags_of}
 use Rattle.model.specs.History.{World, lent}
 use Rattle.model_laws.proofs.state.StateLaws.{with_cursor}
 use Rattle.theorems.proofs.invariant.Invariant.{Sizes, Running}

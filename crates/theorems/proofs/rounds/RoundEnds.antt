@@ -13,10 +13,9 @@ use Rattle.model.specs.Layout.{home_at}
 use Rattle.model.specs.State.{state_of, fixed_in}
 use Rattle.model.specs.declared.State.{State}
 use Rattle.model.specs.Effects.{round_homes, round_transactions, live_tags, tags_of, live_base}
-use Rattle.model.specs.Calls.{Outcome}
 use Rattle.model.specs.Book.{Book, homes_after}
 use Rattle.model.specs.DemandTwo.{closed_below, LiveThroughout}
-use Rattle.model.specs.History.{Service, settles, round_begins, round_steps, trims, reads, Call, opening, confirm, change, service, settle, begin_round, step_round, Event, call, World, Formatting, after_format, lent, ends, feed, is_opening, after_done, after_refused, after_call, step, after, AllAllowed}
+use Rattle.model.specs.History.{Service, settles, round_begins, round_steps, trims, reads, Call, opening, confirm, change, service, settle, begin_round, step_round, Event, call, World, after_format, lent, ends, feed, is_opening, after_done, after_refused, after_call, step, after, AllAllowed}
 use Rattle.model.specs.History.{calls}
 use Rattle.abstract_store.specs.Rounds.{homes_left, homes_left_by, Moved, Ended, may_come, RaisesAt, StaysAt, RoundsThroughout}
 use Rattle.abstract_store.specs.RoundEnds.{is_step, AllCome, stepped, UnderWay, RoundGoes, RoundsEnd}

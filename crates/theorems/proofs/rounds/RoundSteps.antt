@@ -1,5 +1,5 @@
 -- No call between a round's steps makes more homes remain. Assumes nothing.
-use Prim.Native.Nat.{ℕ, zero, suc, ◌+◌, ◌-◌, ◌*◌, ◌≤◌, ◌<◌}
+use Prim.Native.Nat.{ℕ, zero, suc, ◌-◌, ◌*◌, ◌≤◌, ◌<◌}
 use mathlib.Core.Path.{◌≡◌, refl, sym, ap, ◌∙◌}
 use mathlib.Core.Logic.{◌⊎◌, inl, inr}
 use mathlib.Core.Bool.{Bool, true, false, cond, ◌&&◌, ◌||◌, false≢true}
@@ -13,7 +13,7 @@ use Rattle.model.specs.Effects.{marked}
 use Rattle.model.specs.Book.{Commit, Book, Task, idle, opened, commit_task, with_task, add_commit, filled_up, owed_by, with_commits, write_commits, homes_after}
 use Rattle.model.specs.Book as book
 use Rattle.model.specs.DemandTwo.{untrimmed, closed_below, held_entries}
-use Rattle.model.specs.History.{Change, commits, Service, trims, Call, opening, confirm, change, service, feed, feed_change}
+use Rattle.model.specs.History.{Change, Service, trims, Call, opening, confirm, change, service, feed, feed_change}
 use Rattle.abstract_store.specs.Store.{Store, wrote, any_wrote, to_step, next_start, numbered, trimmed_to, after_service, after_done}
 use Rattle.abstract_store.specs.Rounds.{may_come, TicketAbove, StepsShrink}
 use Rattle.theorems.proofs.steps.TrimLaws.{largest-from}

@@ -1,21 +1,20 @@
 -- Rounds, for every history: the data copy home by home at every moment, and what raises the settled position. Assumes nothing.
-use Prim.Native.Nat.{ℕ, ◌+◌, ◌-◌, ◌*◌, ◌≤◌, ◌<◌}
+use Prim.Native.Nat.{ℕ, ◌+◌, ◌≤◌, ◌<◌}
 use mathlib.Core.Path.{◌≡◌, refl, sym, ap, ◌∙◌, subst}
 use mathlib.Core.Logic.{◌⊎◌, inl, inr}
-use mathlib.Core.Bool.{Bool, true, false, cond, not, false≢true}
+use mathlib.Core.Bool.{Bool, true, false, not, false≢true}
 use mathlib.Core.List.{List, [], ◌∷◌}
 use native.Mathlib.Omega.{arith}
 use lib.Dec.{leb}
 use lib.ListN.{length, take}
-use lib.Seq.{take_all}
 use borrow.Author.Tests.{leb-true, leb-false}
 use Rattle.model.specs.Rights.{open_sign}
 use Rattle.model.specs.Layout.{home_at}
-use Rattle.model.specs.State.{state_of, fixed_in, fresh_state}
+use Rattle.model.specs.State.{state_of, fresh_state}
 use Rattle.model.specs.declared.State.{State}
 use Rattle.model.specs.Effects.{Given, Effect, new_state, begin_round_effect, step_round_effect, settle_effect, open_effect, open_start}
 use Rattle.model.specs.Questions.{settle_answer, begin_round_answer, step_round_answer, open_answer}
-use Rattle.model.specs.Calls.{Outcome, done, outcome, size_of, settle_call, begin_round_call, step_round_call, open_call}
+use Rattle.model.specs.Calls.{Outcome, done, size_of, settle_call, begin_round_call, step_round_call, open_call}
 use Rattle.model.specs.Book.{homes_after}
 use Rattle.model.specs.DemandTwo.{closed_below, SettledHomes}
 use Rattle.model.specs.History.{Service, settles, round_begins, round_steps, trims, reads, Call, opening, confirm, change, service, settle, begin_round, step_round, Event, call, crash, World, empty_store, lent, loaded, ends, service_ends, is_opening, after_call, after_done, step, Allowed, AllAllowed}
@@ -28,7 +27,7 @@ use Rattle.theorems.proofs.invariant.Invariant.{Sizes, Closed, Running, Invarian
 use Rattle.theorems.proofs.invariant.OpenLaws.{new_start}
 use Rattle.theorems.proofs.invariant.SettledLaws.{settled-none}
 use Rattle.theorems.proofs.steps.DoneLaws.{outcome-code}
-use Rattle.theorems.proofs.steps.RoundRuns.{lent_out, lent-within, begun-numbers, remaining, remaining-are, stepped, step-effect, ended_numbers, ended-numbers, brought_up, step-now, step-size, next_cursor, cursor-from, cursor-upto, moved-numbers, step-yields}
+use Rattle.theorems.proofs.steps.RoundRuns.{lent_out, lent-within, begun-numbers, remaining, remaining-are, stepped, step-effect, ended-numbers, brought_up, step-now, step-size, next_cursor, cursor-from, cursor-upto, moved-numbers}
 use Rattle.theorems.proofs.steps.OpenStep.{open-effect}
 use Rattle.theorems.proofs.steps.FormatRuns.{from-format}
 use Rattle.theorems.proofs.steps.Beginning.{format-closed}

@@ -1,38 +1,37 @@
 -- Every call keeps the invariant: by its answer, and by what it finds in the writer's record.
-use mathlib.Core.Path.{◌≡◌, refl, sym, ap, ◌∙◌, subst}
-use mathlib.Core.Logic.{◌⊎◌, inl, inr, ⊎_elim}
-use mathlib.Core.Bool.{Bool, true, false, cond, not, ◌&&◌, false≢true}
-use mathlib.Core.List.{List, [], ◌∷◌, ◌++◌, append-nil}
-use mathlib.Core.Option.{Option, none, some}
-use Prim.Native.Nat.{ℕ, zero, suc, ◌+◌, ◌-◌, ◌*◌, ◌/◌, ◌%◌, ◌^◌, ◌≤◌, ◌<◌}
+use mathlib.Core.Path.{◌≡◌, refl, ap, ◌∙◌}
+use mathlib.Core.Logic.{inl, inr, ⊎_elim}
+use mathlib.Core.Bool.{Bool, true, false, cond}
+use mathlib.Core.List.{List, [], ◌∷◌, append-nil}
+use mathlib.Core.Option.{none}
+use Prim.Native.Nat.{ℕ, zero, suc, ◌+◌, ◌-◌, ◌*◌, ◌%◌, ◌≤◌, ◌<◌}
 use native.Mathlib.Nat.{mod-lt}
 use native.Mathlib.Omega.{arith}
 use lib.ListN.{length}
-use lib.Dec.{eqb, leb, ltb}
-use borrow.Author.Tests.{leb-true, leb-false, ltb-true, eqb-true, eqb-false, eq-eqb, ne_eqb}
-use Rattle.model.specs.Layout.{group_count, home_count, group_at}
-use Rattle.model.specs.Batch.{Record, GW, FN, batch_bytes}
-use Rattle.model.specs.State.{state_of, next_position, promised, writer_of, held_of, is_open_now, holds}
-use Rattle.model.specs.declared.State.{State}
+use lib.Dec.{eqb}
+use borrow.Author.Tests.{leb-true, leb-false, ltb-true, eqb-true, eqb-false}
+use Rattle.model.specs.Layout.{home_count, group_at}
+use Rattle.model.specs.Batch.{GW, batch_bytes}
+use Rattle.model.specs.State.{state_of, next_position, promised, writer_of, is_open_now, holds}
 use Rattle.model.specs.declared.Writer.{Writer}
 use Rattle.model.specs.Effects.{Given, Effect, logged, log_held, log_closing, begin_effect, reserve_effect, abort_effect, store_first, store_again, store_other, store_effect, commit_held, commit_effect, flush_none, flush_part, flush_effect, confirm_effect, read_effect, new_state}
-use Rattle.model.specs.Questions.{begin_answer, reserve_answer, abort_answer, store_answer, commit_answer, flush_answer, confirm_answer, read_answer, areas_right, block_right, writer_known, is_home_known, writer_open, store_logs, commit_logs, room, batch_fits}
+use Rattle.model.specs.Questions.{begin_answer, reserve_answer, abort_answer, store_answer, commit_answer, flush_answer, confirm_answer, read_answer, block_right, writer_known, is_home_known, writer_open, store_logs, commit_logs, room}
 use Rattle.model.specs.Calls.{Outcome, outcome, size_of, begin_call, reserve_call, abort_call, store_call, commit_call, flush_call, confirm_call, read_call}
 use Rattle.model.specs.Book.{Task, opened, idle, Book, with_task}
 use Rattle.model.specs.Book as book
-use Rattle.model.specs.History.{Call, begin, reserve, abort, store, commit, flush, confirm, read, Event, call, World, lent, ends, feed, is_confirm, step, change_ends, feed_change, service_ends}
-use Rattle.model_laws.proofs.bytes.LayoutLaws.{groups-in, homes_in, length-group_at, group-fits}
+use Rattle.model.specs.History.{Call, begin, reserve, abort, store, commit, flush, confirm, read, call, World, lent, ends, feed, is_confirm, step, change_ends, feed_change, service_ends}
+use Rattle.model_laws.proofs.bytes.LayoutLaws.{homes_in, length-group_at, group-fits}
 use Rattle.model_laws.proofs.state.BatchLaws.{AllFormed}
 use Rattle.theorems.proofs.steps.RefusalLaws.{step-refused}
-use Rattle.model_laws.proofs.state.QuestionLaws.{StoreReady, CommitReady, Roomy, room-true, begin-ready, abort-ready, store-ready, commit-ready, flush-ready, keeps-promises, confirm-ready, read-ready}
-use Rattle.theorems.proofs.steps.DoneLaws.{outcome-code, outcome-done, step-done, after}
+use Rattle.model_laws.proofs.state.QuestionLaws.{StoreReady, CommitReady, Roomy, room-true, abort-ready, store-ready, commit-ready, flush-ready, keeps-promises}
+use Rattle.theorems.proofs.steps.DoneLaws.{outcome-code, step-done, after}
 use Rattle.theorems.proofs.steps.LogRuns.{logged-records, logged-log}
 use Rattle.theorems.proofs.steps.WriterSteps.{begin-runs, reserve-runs, abort-runs, store-first-runs, store-again-runs}
 use Rattle.theorems.proofs.steps.StoreCommit.{store-other-runs, commit-held-runs}
 use Rattle.theorems.proofs.steps.FlushRuns.{flush-none-runs, flush-part-runs}
 use Rattle.theorems.proofs.steps.NumberRuns.{confirm-runs}
-use Rattle.model_laws.proofs.trace.Trace.{Ev, hist}
-use Rattle.theorems.proofs.invariant.Invariant.{Sizes, Copies, TaskOk, Running}
+use Rattle.model_laws.proofs.trace.Trace.{Ev}
+use Rattle.theorems.proofs.invariant.Invariant.{Sizes, TaskOk, Running}
 use Rattle.model_laws.proofs.state.LoggingLaws.{fits, length-entered}
 
 -- what a done call shows: its records can be read back, and the world after it is as it should be

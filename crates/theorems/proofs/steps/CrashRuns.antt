@@ -1,16 +1,14 @@
 -- A crash: what memory opens to, and that no owed commit is lost.
-use mathlib.Core.Path.{◌≡◌, refl, sym, ap, ◌∙◌, subst}
-use mathlib.Core.Logic.{◌⊎◌, inl, inr, ⊎_elim}
-use mathlib.Core.Bool.{Bool, true, false, cond, ◌&&◌, false≢true}
-use mathlib.Core.List.{List, [], ◌∷◌, ◌++◌, append-nil, append_assoc}
-use mathlib.Core.Option.{Option, none, some}
-use Prim.Native.Nat.{ℕ, zero, suc, ◌+◌, ◌-◌, ◌*◌, ◌/◌, ◌%◌, ◌^◌, ◌≤◌, ◌<◌}
+use mathlib.Core.Path.{◌≡◌, refl, sym, ap, ◌∙◌}
+use mathlib.Core.Logic.{◌⊎◌, inl, inr}
+use mathlib.Core.Bool.{Bool, true, false, cond, false≢true}
+use mathlib.Core.List.{List, [], ◌∷◌, ◌++◌, append-nil}
+use Prim.Native.Nat.{ℕ, zero, suc, ◌+◌, ◌-◌, ◌*◌, ◌/◌, ◌%◌, ◌≤◌, ◌<◌}
 use native.Mathlib.Decide.{dec_lt, dec_le}
 use native.Mathlib.Omega.{arith}
 use lib.ListN.{length, drop}
 use lib.Seq.{drop-length}
 use Rattle.model.specs.Batch.{Record, FN}
-use Rattle.model.specs.State.{state_of}
 use Rattle.model.specs.Crash.{Memory, fences, persist, persist_chosen, fates, fates_chosen}
 use Rattle.model.specs.Book.{Landing, persisted, Entry, Commit, Book, fate_at, survives, all_survive, run, persisted_entries, ended, homes_after, write_entries, write_commits}
 use Rattle.model.specs.Book as book
@@ -28,7 +26,7 @@ use Rattle.theorems.proofs.invariant.TouchLaws.{all_append, EntryFits, CommitFit
 use Rattle.theorems.proofs.invariant.LateOpens.{late-opens}
 use Rattle.theorems.proofs.invariant.NowLate.{now-late-homes}
 use Rattle.theorems.proofs.steps.FenceRuns.{lasting-groups, now_of, is_in_order, in-order-chosen, done_held}
-use Rattle.theorems.proofs.invariant.Invariant.{Sizes, Sound, OldEntries, OldCommits, OwedBelow, Matches, landed_in, entries_for, Commits, Copies, Submitted, Confirmed, Running, Closed, Opens, Early, Late, ImageOk}
+use Rattle.theorems.proofs.invariant.Invariant.{Sizes, OldEntries, OldCommits, OwedBelow, Matches, landed_in, Commits, Submitted, Running, Closed, Opens, Late, ImageOk}
 
 -- commits of the run, once it is over
 ended-entries : (es : List Entry) (A : List ℕ) → write_entries (persisted_entries es) A ≡ write_entries es A

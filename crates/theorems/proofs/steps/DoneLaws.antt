@@ -1,19 +1,15 @@
 -- How a call ends and what the world is then.
-use mathlib.Core.Path.{◌≡◌, refl, sym, ap, ◌∙◌, subst}
-use mathlib.Core.Bool.{Bool, true, false, cond}
-use mathlib.Core.List.{List, [], ◌∷◌, ◌++◌, append-nil}
-use Prim.Native.Nat.{ℕ, zero, suc, ◌+◌, ◌≤◌, ◌<◌}
+use mathlib.Core.Path.{◌≡◌, refl, ap, ◌∙◌}
+use mathlib.Core.Bool.{true, cond}
+use mathlib.Core.List.{◌++◌}
+use Prim.Native.Nat.{ℕ, zero, suc, ◌≤◌}
 use native.Mathlib.Omega.{arith}
 use lib.ListN.{length, take}
-use lib.Dec.{leb}
-use borrow.Author.Tests.{leb-true}
-use Rattle.model.specs.Bytes.{puts}
-use Rattle.model.specs.Batch.{Record, batch_bytes, read_batch, read_records}
+use Rattle.model.specs.Batch.{batch_bytes, read_batch}
 use Rattle.model.specs.Effects.{Given, Effect}
-use Rattle.model.specs.Questions.{batch_fits}
-use Rattle.model.specs.Calls.{Outcome, refused, done, size_of, outcome}
+use Rattle.model.specs.Calls.{refused, done, size_of, outcome}
 use Rattle.model.specs.Crash.{fences}
-use Rattle.model.specs.History.{Call, Event, call, World, ends, feed, is_confirm, after_done, after_call, step}
+use Rattle.model.specs.History.{Call, call, World, ends, feed, is_confirm, after_done, after_call, step}
 use Rattle.model_laws.proofs.state.BatchLaws.{AllFormed, read-batch, taken}
 
 -- the answer's number is the verdict

@@ -1,20 +1,18 @@
 -- Calls that end with a fence: the records since the last crash after them.
 use mathlib.Core.Path.{◌≡◌, refl, sym, ap, ◌∙◌, subst}
-use mathlib.Core.Logic.{◌⊎◌, inl, inr, ⊎_elim}
-use mathlib.Core.Bool.{Bool, true, false, cond, false≢true}
+use mathlib.Core.Logic.{inr}
+use mathlib.Core.Bool.{Bool}
 use mathlib.Core.List.{List, [], ◌∷◌, ◌++◌, append-nil, append_assoc}
-use mathlib.Core.Option.{Option, none, some}
-use Prim.Native.Nat.{ℕ, zero, suc, ◌+◌, ◌-◌, ◌*◌, ◌/◌, ◌%◌, ◌^◌, ◌≤◌, ◌<◌}
+use Prim.Native.Nat.{ℕ, ◌+◌, ◌-◌, ◌*◌, ◌≤◌, ◌<◌}
 use native.Mathlib.Decide.{dec_lt}
 use native.Mathlib.Omega.{arith}
 use lib.ListN.{length, drop}
 use Rattle.model.specs.Layout.{group_count, header_start}
 use Rattle.model.specs.State.{state_of, next_position}
-use Rattle.model.specs.declared.State.{State}
 use Rattle.model.specs.Batch.{Record, FN}
 use Rattle.model.specs.Effects.{home_writes}
 use Rattle.model.specs.Crash.{Memory, fences, persist, persist_chosen, fates, fates_chosen}
-use Rattle.model.specs.Book.{Commit, fate_at}
+use Rattle.model.specs.Book.{Commit}
 use Rattle.model.specs.DemandTwo.{group_writes}
 use Rattle.model.specs.History.{World}
 use Rattle.model_laws.proofs.bytes.LayoutLaws.{groups-in}
@@ -23,7 +21,7 @@ use Rattle.model_laws.proofs.trace.FateLaws.{drop-trues}
 use Rattle.model_laws.proofs.trace.HomeLaws.{In}
 use Rattle.model_laws.proofs.trace.MixLaws.{group_part, home_part, group_writes-part, none-mixed, sorted-then, sorted-wrote}
 use Rattle.model_laws.proofs.trace.Trace.{Ev}
-use Rattle.theorems.proofs.invariant.Invariant.{Sizes, HeldHome, Late, ImageOk, Copies, Submitted, Commits, Running}
+use Rattle.theorems.proofs.invariant.Invariant.{Sizes, HeldHome, Late, ImageOk, Copies, Submitted, Commits}
 use Rattle.theorems.proofs.invariant.SettledLaws.{copy-held}
 use Rattle.theorems.proofs.invariant.Now.{Now}
 

@@ -1,46 +1,43 @@
 -- Flush: a part-filled group is submitted, its other places passed over, and a fence follows.
 use mathlib.Core.Path.{◌≡◌, refl, sym, ap, ◌∙◌, subst}
-use mathlib.Core.Logic.{◌⊎◌, inl, inr, ⊎_elim}
-use mathlib.Core.Bool.{Bool, true, false, cond, false≢true}
+use mathlib.Core.Bool.{Bool, true, false, cond}
 use mathlib.Core.List.{List, [], ◌∷◌, ◌++◌, append-nil, append_assoc}
-use mathlib.Core.Option.{Option, none, some}
-use Prim.Native.Nat.{ℕ, zero, suc, ◌+◌, ◌-◌, ◌*◌, ◌/◌, ◌%◌, ◌^◌, ◌≤◌, ◌<◌}
+use mathlib.Core.Option.{none}
+use Prim.Native.Nat.{ℕ, zero, suc, ◌+◌, ◌-◌, ◌*◌, ◌%◌, ◌≤◌, ◌<◌}
 use native.Mathlib.Omega.{arith}
 use lib.ListN.{length, drop}
-use lib.Dec.{eqb, leb}
+use lib.Dec.{eqb}
 use borrow.Author.Tests.{eqb-true, eqb-false, eq-eqb, ne_eqb}
-use Rattle.model.specs.Layout.{group_at, header_start}
+use Rattle.model.specs.Layout.{group_at}
 use Rattle.model.specs.State.{state_of, set_fenced, set_next, set_filled, next_position, promise_of, promised, places, writer_of, held_of}
 use Rattle.model.specs.declared.State.{State}
 use Rattle.model.specs.declared.Writer.{Writer}
-use Rattle.model.specs.Effects.{Effect, flush_none, flush_part}
+use Rattle.model.specs.Effects.{flush_none, flush_part}
 use Rattle.model.specs.Batch.{Record, GW, FN}
-use Rattle.model.specs.Crash.{Memory, fences, persist, persist_chosen, fates, fates_chosen}
+use Rattle.model.specs.Crash.{persist, fates}
 use Rattle.model.specs.Book.{Commit, Task, Book, submit, fate_at, homes_after}
 use Rattle.model.specs.Book as book
-use Rattle.model.specs.DemandTwo.{closed_below, group_writes}
-use Rattle.model.specs.History.{Call, World, lent, feed, is_confirm, flush, feed_change}
+use Rattle.model.specs.DemandTwo.{group_writes}
+use Rattle.model.specs.History.{World, lent, feed, is_confirm, flush, feed_change}
 use Rattle.model_laws.proofs.state.StateLaws.{with_fenced, with_next, with_filled, state-set_fenced, length-set_fenced, writer-set_fenced, held-set_fenced, state-set_next, length-set_next, writer-set_next, held-set_next, state-set_filled, length-set_filled, writer-set_filled, held-set_filled}
-use Rattle.model_laws.proofs.state.OrderLaws.{InOrder, WriterInOrder, Reserved}
 use Rattle.model_laws.proofs.state.PromiseLaws.{promise-set_fenced, promise-set_next, promise-set_filled, promised-agree}
-use Rattle.model_laws.proofs.trace.CrashLaws.{write_records, submits, NoFence, trues, group_writes-fence}
+use Rattle.model_laws.proofs.trace.CrashLaws.{write_records}
 use Rattle.model_laws.proofs.trace.HomeLaws.{In}
 use Rattle.model_laws.proofs.trace.MixLaws.{mixed-append}
-use Rattle.model_laws.proofs.trace.Trace.{Ev, Hist, hist, tag_at, closer_of, Apart, Linked}
+use Rattle.model_laws.proofs.trace.Trace.{Ev, hist, tag_at, closer_of, Linked}
 use Rattle.model_laws.proofs.trace.TraceLaws.{all_map}
 use Rattle.model_laws.proofs.trace.LinkLaws.{linked-ext}
 use Rattle.theorems.proofs.invariant.GrowLaws.{holds-gap, sound-gap, commits-gap, gap-done, gap-open, entries-older, open-below}
 use Rattle.theorems.proofs.invariant.GrowImages.{image-gap, closers-older}
 use Rattle.theorems.proofs.steps.DoneLaws.{after}
-use Rattle.theorems.proofs.invariant.Invariant.{Sizes, Sound, Holds, TaskOk, Copies, Submitted, Confirmed, Commits, Running, LastOk, last_closer, ImageOk, Late, OwedBelow}
-use Rattle.theorems.proofs.invariant.Now.{Now}
+use Rattle.theorems.proofs.invariant.Invariant.{Sizes, Sound, Holds, TaskOk, Copies, Submitted, Commits, Running, ImageOk}
 use Rattle.theorems.proofs.invariant.NowLate.{now-late-homes, same_start}
 use Rattle.theorems.proofs.invariant.NowNext.{now-fenced}
 use Rattle.theorems.proofs.invariant.SettledLaws.{settled-homes-same, copy-held}
 use Rattle.theorems.proofs.steps.FenceRuns.{now_of, is_in_order, in-order-area, done_held, submitted-fence}
 use Rattle.theorems.proofs.steps.LogRuns.{task-grows}
 use Rattle.theorems.proofs.steps.LogSubmits.{submits-more, groups-more, homes_more, area-more, confirmed-more}
-use Rattle.theorems.proofs.steps.NumberRuns.{Renumbered, copies-renumber}
+use Rattle.theorems.proofs.steps.NumberRuns.{copies-renumber}
 
 -- no part-filled group: only a fence
 pub flush-none-runs : (G D : ℕ) (z : Sizes G D) (w : World) (r : Running G D w) (batch : List ℕ) → (state_of w.state).filled ≡ 0

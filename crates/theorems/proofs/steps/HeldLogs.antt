@@ -1,26 +1,23 @@
 -- Logging a writer's held block: the event, its tag and the book's entry.
-use mathlib.Core.Path.{◌≡◌, refl, sym, ap, ◌∙◌, subst}
-use mathlib.Core.Logic.{◌⊎◌, inl, inr, ⊎_elim}
-use mathlib.Core.Bool.{Bool, true, false, cond, ◌&&◌, false≢true}
-use mathlib.Core.List.{List, [], ◌∷◌, ◌++◌, append-nil, append_assoc}
+use mathlib.Core.Path.{◌≡◌, refl, sym, ◌∙◌}
+use mathlib.Core.Logic.{inl, inr}
+use mathlib.Core.Bool.{Bool, true, false, cond}
+use mathlib.Core.List.{List, [], ◌∷◌, ◌++◌}
 use mathlib.Core.Option.{Option, none, some}
-use Prim.Native.Nat.{ℕ, zero, suc, ◌+◌, ◌-◌, ◌*◌, ◌/◌, ◌%◌, ◌^◌, ◌≤◌, ◌<◌}
+use Prim.Native.Nat.{ℕ, ◌+◌, ◌-◌, ◌*◌, ◌≤◌}
 use native.Mathlib.Omega.{arith}
 use lib.ListN.{length}
 use lib.Dec.{eqb, leb}
-use borrow.Author.Tests.{eqb-true, eqb-false, eq-eqb, ne_eqb, le-leb, lt-leb, leb-true, leb-false}
-use Rattle.model.specs.State.{state_of, next_position, writer_of, held_of, has_logged, first_for, count_for}
+use borrow.Author.Tests.{eq-eqb, ne_eqb, le-leb, lt-leb, leb-true, leb-false}
+use Rattle.model.specs.State.{has_logged, first_for, count_for}
 use Rattle.model.specs.declared.State.{State}
 use Rattle.model.specs.declared.Writer.{Writer}
 use Rattle.model.specs.Effects.{link_from}
-use Rattle.model.specs.Book.{Landing, row, Entry, Commit, Held, Task, opened, idle, Book, entry_of, submit, grown, filled_up}
-use Rattle.model.specs.History.{World}
-use Rattle.model_laws.proofs.bytes.ByteLaws.{length_part}
-use Rattle.model_laws.proofs.state.OrderLaws.{InOrder, WriterInOrder}
-use Rattle.model_laws.proofs.trace.Trace.{Ev, Hist, mine, hist, first_of, closer_of, oldest_of, LinkOk}
-use Rattle.model_laws.proofs.trace.TraceLaws.{done-rising, Rising}
+use Rattle.model.specs.Book.{Task, opened, Book, submit, grown, filled_up}
+use Rattle.model_laws.proofs.trace.Trace.{Ev, Hist, mine, first_of, closer_of, oldest_of, LinkOk}
+use Rattle.model_laws.proofs.trace.TraceLaws.{Rising}
 use Rattle.model_laws.proofs.trace.LinkLaws.{last_from, Below, below_last}
-use Rattle.theorems.proofs.invariant.Invariant.{Sizes, SoundAt, entries_for, TaskOk, Copies, LastOk, last_closer}
+use Rattle.theorems.proofs.invariant.Invariant.{entries_for, TaskOk, LastOk, last_closer}
 
 pub filled-tasks : (k : Book) → (filled_up k).tasks ≡ k.tasks
 unfolding filled_up submit grown

@@ -1,30 +1,28 @@
 -- A call that writes homes into the data area, with a fence after them: the records since the last crash after it. For settle and the last step of a
 -- round. Assumes nothing.
-use Prim.Native.Nat.{ℕ, ◌+◌, ◌-◌, ◌*◌, ◌≤◌, ◌<◌}
+use Prim.Native.Nat.{ℕ, ◌+◌, ◌*◌, ◌≤◌, ◌<◌}
 use mathlib.Core.Path.{◌≡◌, refl, sym, ap, ◌∙◌}
 use mathlib.Core.Logic.{◌⊎◌, inl, inr}
-use mathlib.Core.Bool.{Bool, true, false}
 use mathlib.Core.List.{List, [], ◌∷◌, ◌++◌, append_assoc}
 use native.Mathlib.Omega.{arith}
 use lib.ListN.{length}
-use Rattle.model.specs.Layout.{header_start, home_at}
+use Rattle.model.specs.Layout.{home_at}
 use Rattle.model.specs.State.{state_of}
-use Rattle.model.specs.declared.State.{State}
-use Rattle.model.specs.Batch.{Record, FN}
+use Rattle.model.specs.Batch.{FN}
 use Rattle.model.specs.Effects.{home_writes}
-use Rattle.model.specs.Crash.{Memory, persist_chosen, fates_chosen}
+use Rattle.model.specs.Crash.{Memory}
 use Rattle.model.specs.Book.{Commit}
 use Rattle.model.specs.History.{World}
 use Rattle.model_laws.proofs.bytes.LayoutLaws.{area-ext}
-use Rattle.model_laws.proofs.trace.CrashLaws.{write_records, trues, submits, none-homes, group_writes-homes, write-append}
+use Rattle.model_laws.proofs.trace.CrashLaws.{write_records, submits, none-homes, group_writes-homes, write-append}
 use Rattle.model_laws.proofs.trace.HomeLaws.{In, in-cases, length-homes-wrote, home_at-wrote, home_at-unwritten}
 use Rattle.model_laws.proofs.trace.RestoreLaws.{in-or-not}
 use Rattle.model_laws.proofs.trace.Trace.{Ev}
-use Rattle.theorems.proofs.invariant.Invariant.{Sizes, HeldHome, Late, Copies, Submitted, Commits}
+use Rattle.theorems.proofs.invariant.Invariant.{Sizes, HeldHome, Copies, Submitted, Commits}
 use Rattle.theorems.proofs.invariant.Now.{Now}
 use Rattle.theorems.proofs.invariant.NowLate.{now-late-homes, same_start}
 use Rattle.theorems.proofs.invariant.NowNext.{now-fenced}
-use Rattle.theorems.proofs.steps.FenceRuns.{now_of, fenced_memory, is_in_order, in-order-area, done_held, submitted-fence}
+use Rattle.theorems.proofs.steps.FenceRuns.{now_of, fenced_memory, is_in_order, in-order-area, submitted-fence}
 
 -- the records of homes that two areas have alike
 pub home_writes-agree : (a b hs : List ℕ) → ((h : ℕ) → In h hs → home_at a h ≡ home_at b h) → home_writes a hs ≡ home_writes b hs

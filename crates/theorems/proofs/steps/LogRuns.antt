@@ -2,7 +2,7 @@
 use mathlib.Core.Path.{◌≡◌, sym, ap, ◌∙◌}
 use mathlib.Core.Logic.{◌⊎◌, inl, inr, ⊎_elim}
 use mathlib.Core.Bool.{true, cond}
-use mathlib.Core.List.{List, [], ◌∷◌}
+use mathlib.Core.List.{List, ◌∷◌}
 use mathlib.Core.Option.{none, some}
 use Prim.Native.Nat.{ℕ, ◌+◌, ◌-◌, ◌*◌, ◌%◌, ◌≤◌, ◌<◌}
 use native.Mathlib.Omega.{arith}
@@ -13,8 +13,8 @@ use Rattle.model.specs.Layout.{group_at}
 use Rattle.model.specs.State.{state_of, next_position, writer_of, held_of, promise_of, promised, places}
 use Rattle.model.specs.declared.State.{State}
 use Rattle.model.specs.declared.Writer.{Writer}
-use Rattle.model.specs.Effects.{entered, submitted, logged}
-use Rattle.model.specs.Book.{row, Task, opened, Book, submit, grown, filled_up}
+use Rattle.model.specs.Effects.{entered}
+use Rattle.model.specs.Book.{Task, opened, Book, submit, grown, filled_up}
 use Rattle.model.specs.DemandTwo.{closed_below, settled_for}
 use Rattle.model.specs.History.{World}
 use Rattle.model_laws.proofs.state.OrderLaws.{WriterInOrder, Reserved}

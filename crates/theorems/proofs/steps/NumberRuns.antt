@@ -1,33 +1,30 @@
 -- Calls that change the strip's numbers and no writer's record: flush with no part-filled group, confirm, settle, trim.
 use mathlib.Core.Path.{◌≡◌, refl, sym, ap, ◌∙◌, subst}
-use mathlib.Core.Logic.{◌⊎◌, inl, inr, ⊎_elim}
+use mathlib.Core.Logic.{inl, inr, ⊎_elim}
 use mathlib.Core.Bool.{Bool, true, false, cond, ◌&&◌, ◌||◌, false≢true}
-use mathlib.Core.List.{List, [], ◌∷◌, ◌++◌, append-nil, append_assoc}
-use mathlib.Core.Option.{Option, none, some}
-use Prim.Native.Nat.{ℕ, zero, suc, ◌+◌, ◌-◌, ◌*◌, ◌/◌, ◌%◌, ◌^◌, ◌≤◌, ◌<◌}
+use mathlib.Core.List.{List, [], ◌∷◌, ◌++◌, append-nil}
+use mathlib.Core.Option.{none}
+use Prim.Native.Nat.{ℕ, ◌+◌, ◌-◌, ◌*◌, ◌%◌, ◌^◌, ◌≤◌, ◌<◌}
 use native.Mathlib.Omega.{arith}
 use lib.ListN.{length}
 use Rattle.model.specs.Layout.{group_at, header_start, home_at}
-use Rattle.model.specs.State.{state_of, set_fenced, set_durable, next_position, promise_of, promised, places, writer_of, held_of}
+use Rattle.model.specs.State.{state_of, set_durable, next_position, promise_of, places, writer_of, held_of}
 use Rattle.model.specs.declared.State.{State}
-use Rattle.model.specs.declared.Writer.{Writer}
-use Rattle.model.specs.Effects.{Effect, flush_none, confirm_effect, new_state}
-use Rattle.model.specs.Batch.{Record, FN}
-use Rattle.model.specs.Crash.{Memory, fences, persist_chosen}
-use Rattle.model.specs.Book.{Commit, Entry, Book, homes_after, write_commits, owed_by, with_commits, run, all_survive}
-use Rattle.model.specs.Book as book
+use Rattle.model.specs.Effects.{confirm_effect, new_state}
+use Rattle.model.specs.Batch.{FN}
+use Rattle.model.specs.Crash.{Memory, fences}
+use Rattle.model.specs.Book.{Commit, homes_after, write_commits, owed_by, with_commits, run, all_survive}
 use Rattle.model.specs.DemandTwo.{closed_below, settled_for, SettledHomes, group_writes}
-use Rattle.model.specs.History.{Call, World, lent, feed, is_confirm, flush, confirm, feed_change}
-use Rattle.model_laws.proofs.state.StateLaws.{with_durable, state-set_fenced, length-set_fenced, writer-set_fenced, held-set_fenced, state-set_durable, length-set_durable, writer-set_durable, held-set_durable}
-use Rattle.model_laws.proofs.state.OrderLaws.{InOrder, WriterInOrder, Reserved}
+use Rattle.model.specs.History.{World, lent, feed, is_confirm, confirm, feed_change}
+use Rattle.model_laws.proofs.state.StateLaws.{with_durable, state-set_durable, length-set_durable, writer-set_durable, held-set_durable}
+use Rattle.model_laws.proofs.state.OrderLaws.{InOrder, Reserved}
 use Rattle.model_laws.proofs.state.PromiseLaws.{promise-set_durable, promised-agree}
 use Rattle.model_laws.proofs.trace.CrashLaws.{fences-append, fences-none, group_writes-fence}
 use Rattle.model_laws.proofs.trace.MixLaws.{none-mixed}
-use Rattle.model_laws.proofs.trace.Trace.{Ev, Hist, hist, tag_at, Apart, Linked}
+use Rattle.model_laws.proofs.trace.Trace.{Ev, hist, tag_at, Apart, Linked}
 use Rattle.theorems.proofs.steps.DoneLaws.{after}
-use Rattle.theorems.proofs.invariant.Invariant.{Sizes, Holds, TaskOk, Copies, Submitted, Confirmed, Commits, Running, LastOk, last_closer, OwedBelow, OldCommits, Matches, ImageOk, Late, touches_above}
+use Rattle.theorems.proofs.invariant.Invariant.{Sizes, Copies, Commits, Running, LastOk, last_closer, OwedBelow, OldCommits, Matches, Late, touches_above}
 use Rattle.theorems.proofs.invariant.SettledLaws.{settled_same}
-use Rattle.theorems.proofs.steps.LogSubmits.{confirmed-more}
 
 -- what the strip's numbers keep, and how they may change
 pub record Renumbered (st st' : State) : Type 0 where

@@ -1,20 +1,20 @@
 -- Openings: what they answer, what they leave, and that the invariant holds after them.
-use mathlib.Core.Path.{◌≡◌, refl, sym, ap, ◌∙◌, subst}
-use mathlib.Core.Logic.{◌⊎◌, inl, inr, ⊎_elim}
-use mathlib.Core.Bool.{Bool, true, false}
-use mathlib.Core.List.{List, [], ◌∷◌, ◌++◌}
-use Prim.Native.Nat.{ℕ, zero, suc, ◌+◌, ◌*◌, ◌^◌, ◌≤◌, ◌<◌}
+use mathlib.Core.Path.{◌≡◌, refl, sym, ap, ◌∙◌}
+use mathlib.Core.Logic.{inl, inr}
+use mathlib.Core.Bool.{true}
+use mathlib.Core.List.{List, [], ◌∷◌}
+use Prim.Native.Nat.{ℕ, ◌+◌, ◌*◌, ◌^◌, ◌≤◌, ◌<◌}
 use native.Mathlib.Omega.{arith}
 use lib.ListN.{length}
 use borrow.Author.Tests.{leb-true}
 use Rattle.model.specs.Layout.{group_count, header_start, home_at}
-use Rattle.model.specs.Batch.{Record, HW, KW, FN}
+use Rattle.model.specs.Batch.{FN}
 use Rattle.model.specs.Effects.{Given, Effect, open_effect, open_start, blank_writes, home_writes}
 use Rattle.model.specs.Questions.{open_answer, start_fits}
 use Rattle.model.specs.Calls.{Outcome, outcome, done, size_of, open_call}
 use Rattle.model.specs.Book.{homes_after}
 use Rattle.model.specs.DemandThree.{Opened}
-use Rattle.model.specs.History.{Call, opening, Event, call, World, loaded, ends, step}
+use Rattle.model.specs.History.{opening, call, World, loaded, ends, step}
 use Rattle.model_laws.proofs.bytes.ByteLaws.{length_part}
 use Rattle.model_laws.proofs.bytes.LayoutLaws.{groups-in, length-header}
 use Rattle.model_laws.proofs.state.BatchLaws.{AllFormed, formed-append}
@@ -22,11 +22,11 @@ use Rattle.model_laws.proofs.state.QuestionLaws.{open-ready}
 use Rattle.model_laws.proofs.trace.HomeLaws.{In}
 use Rattle.model_laws.proofs.trace.OpeningLaws.{formed-blanks}
 use Rattle.theorems.proofs.steps.DoneLaws.{outcome-code, outcome-done}
-use Rattle.theorems.proofs.invariant.OpenLaws.{hs, new_header, new_start, touched-below, restored-size}
+use Rattle.theorems.proofs.invariant.OpenLaws.{hs, new_start, touched-below, restored-size}
 use Rattle.theorems.proofs.steps.OpenStep.{opens-with, open-effect, open-runs}
 use Rattle.theorems.proofs.steps.Beginning.{open-answers}
-use Rattle.theorems.proofs.steps.CallRuns.{Done, by_answer}
-use Rattle.theorems.proofs.invariant.Invariant.{Sizes, Closed, Running, Invariant}
+use Rattle.theorems.proofs.steps.CallRuns.{by_answer}
+use Rattle.theorems.proofs.invariant.Invariant.{Sizes, Closed, Invariant}
 use Rattle.model_laws.proofs.state.LoggingLaws.{fits}
 
 pub homes-formed : (D : ℕ) (area hs : List ℕ) → D ≤ 65535 → length area ≡ 64 * D → ((h : ℕ) → In h hs → h < D) → AllFormed (home_writes area hs)

@@ -1,45 +1,39 @@
 -- A done opening begins an era.
 use mathlib.Core.Path.{◌≡◌, refl, sym, ap, ◌∙◌, subst}
 use mathlib.Core.Logic.{◌⊎◌, inl, inr}
-use mathlib.Core.Bool.{Bool, true, false, cond, ◌&&◌, false≢true}
+use mathlib.Core.Bool.{Bool, true, false, cond, false≢true}
 use mathlib.Core.List.{List, [], ◌∷◌, ◌++◌, append-nil, append_assoc}
-use mathlib.Core.Option.{Option, none, some}
-use Prim.Native.Nat.{ℕ, zero, suc, ◌+◌, ◌-◌, ◌*◌, ◌/◌, ◌%◌, ◌^◌, ◌≤◌, ◌<◌}
+use Prim.Native.Nat.{ℕ, zero, suc, ◌+◌, ◌-◌, ◌*◌, ◌%◌, ◌^◌, ◌≤◌, ◌<◌}
 use native.Mathlib.Nat.{mod-lt}
 use native.Mathlib.Omega.{arith}
 use lib.ListN.{length, drop}
-use lib.Dec.{leb}
-use borrow.Author.Tests.{leb-true}
 use Rattle.model.specs.Rights.{open_sign}
 use Rattle.model.specs.Bytes.{part, puts, same}
-use Rattle.model.specs.Layout.{group_count, home_count, header_start, header, group_mark, group_at, group_number, unused_group, empty_log, home_at}
+use Rattle.model.specs.Layout.{group_count, home_count, header_start, group_mark, group_at, group_number, unused_group, empty_log, home_at}
 use Rattle.model.specs.Batch.{Record, KW, FN}
-use Rattle.model.specs.State.{state_of, next_position, writer_of, fresh_state, idle}
+use Rattle.model.specs.State.{state_of, next_position, fresh_state, idle}
 use Rattle.model.specs.declared.State.{State}
-use Rattle.model.specs.declared.Writer.{Writer}
-use Rattle.model.specs.Effects.{Given, Effect, open_effect, open_tags, open_start, blank_writes, home_writes}
-use Rattle.model.specs.Questions.{open_answer, start_fits}
+use Rattle.model.specs.Effects.{Effect, open_effect, open_tags, open_start, blank_writes, home_writes}
 use Rattle.model.specs.Newest.{nothing_kept}
 use Rattle.model.specs.Crash.{Memory, fences, persist, persist_chosen, fates}
-use Rattle.model.specs.Book.{Commit, Book, homes_after, write_commits, all_owed, with_commits, fate_at, run}
-use Rattle.model.specs.DemandTwo.{closed_below, settled_for, group_writes}
-use Rattle.model.specs.History.{Call, opening, World, loaded, feed, is_confirm, feed_change}
+use Rattle.model.specs.Book.{Commit, homes_after, write_commits, all_owed, with_commits, fate_at}
+use Rattle.model.specs.DemandTwo.{settled_for, group_writes}
+use Rattle.model.specs.History.{opening, World, loaded, feed, is_confirm, feed_change}
 use Rattle.model_laws.proofs.bytes.ByteLaws.{puts_whole}
 use Rattle.model_laws.proofs.bytes.LayoutLaws.{length-header, groups-in, homes_in}
 use Rattle.model_laws.proofs.bytes.BlockLaws.{block_in, same-mark, same_number}
 use Rattle.model_laws.proofs.bytes.EmptyLaws.{length-unused_group, unused-mark, unused-opposite, length-empty_log, empty_log-start, empty_log-right, empty_log-group}
 use Rattle.model_laws.proofs.state.OrderLaws.{in_order, length-fresh, state-fresh, writer-fresh, in-order-fresh}
-use Rattle.model_laws.proofs.state.QuestionLaws.{open-ready}
 use Rattle.model_laws.proofs.trace.CrashLaws.{write_records, submits, NoFence, write-append, write-FN, group_writes-fence, write-nil}
 use Rattle.model_laws.proofs.trace.HomeLaws.{log-homes, log-homes-wrote, log-header, area-header, log-header-wrote, area-header-wrote}
 use Rattle.model_laws.proofs.trace.SubmitLaws.{area-submits, length-submits, header_start-submits, header_right-submits, meta-submits}
 use Rattle.model_laws.proofs.trace.OpeningLaws.{none-blanks, group_writes-blanks, blank-submits, write-blanks, opening_records, fences-opening, group_writes-opening, opening-none, opening-one, opening-two}
 use Rattle.model_laws.proofs.trace.FateLaws.{drop-fates}
 use Rattle.model_laws.proofs.trace.MixLaws.{group_part, home_part}
-use Rattle.model_laws.proofs.trace.Trace.{Ev, hist}
+use Rattle.model_laws.proofs.trace.Trace.{hist}
 use Rattle.theorems.proofs.steps.DoneLaws.{after}
-use Rattle.theorems.proofs.invariant.OpenLaws.{hs, ts, tags, new_start, new_header, restored-size, closed-old, early-chosen, early-written, all-written, new-start, new-right, new-size, new-numbers, late-begin}
-use Rattle.theorems.proofs.invariant.Invariant.{Sizes, OldCommits, OldEntries, OwedBelow, Commits, Copies, Submitted, Confirmed, Running, Closed, Opens, Early, Late, ImageOk, FoundBelow, Turned, last_closer, TaskOk}
+use Rattle.theorems.proofs.invariant.OpenLaws.{hs, ts, new_start, new_header, restored-size, closed-old, early-chosen, early-written, all-written, new-start, new-right, new-size, new-numbers, late-begin}
+use Rattle.theorems.proofs.invariant.Invariant.{Sizes, OldCommits, OwedBelow, Running, Closed, Opens, ImageOk, FoundBelow, Turned, last_closer}
 
 -- owed or not, the homes are the same
 pub homes-owed : (cs : List Commit) (A : List ℕ) → write_commits (all_owed cs) A ≡ write_commits cs A

@@ -1,8 +1,8 @@
 -- Rounds: begun, and moved on by a step of k homes. Assumes nothing.
-use Prim.Native.Nat.{ℕ, suc, ◌+◌, ◌-◌, ◌*◌, ◌^◌, ◌≤◌, ◌<◌}
+use Prim.Native.Nat.{ℕ, ◌+◌, ◌-◌, ◌*◌, ◌^◌, ◌≤◌, ◌<◌}
 use mathlib.Core.Path.{◌≡◌, refl, sym, ap, ◌∙◌}
 use mathlib.Core.Logic.{◌⊎◌, inl, inr}
-use mathlib.Core.Bool.{Bool, true, false, cond, ◌&&◌, false≢true}
+use mathlib.Core.Bool.{Bool, true, false, cond, ◌&&◌}
 use mathlib.Core.List.{List, [], ◌∷◌, ◌++◌, append-nil, append_assoc}
 use native.Mathlib.Decide.{dec_lt}
 use native.Mathlib.Omega.{arith}
@@ -11,35 +11,34 @@ use lib.ListN.{length, get_or, take}
 use lib.Seq.{take_all}
 use borrow.Author.Tests.{leb-true, leb-false, le-leb}
 use Rattle.model.specs.Layout.{home_at, block_at}
-use Rattle.model.specs.Commit.{transactions, newest, found}
+use Rattle.model.specs.Commit.{newest, found}
 use Rattle.model.specs.State.{state_of, set_settled, set_fenced, set_round, set_cursor, fixed_in, next_position, promise_of, writer_of, held_of}
 use Rattle.model.specs.declared.State.{State}
-use Rattle.model.specs.Effects.{Given, groups, homes, Effect, new_state, marked, home_writes, touched_from, restored_homes, live_tags, live_base, round_transactions, round_homes, round_ended, round_moved, step_homes, step_round_effect, begin_round_effect}
+use Rattle.model.specs.Effects.{Effect, new_state, marked, home_writes, touched_from, restored_homes, round_transactions, round_homes, round_ended, round_moved, step_homes, step_round_effect, begin_round_effect}
 use Rattle.model.specs.Questions.{in_round}
 use Rattle.model.specs.Batch.{Record, FN}
 use Rattle.model.specs.Crash.{Memory}
 use Rattle.model.specs.Book.{homes_after}
 use Rattle.model.specs.DemandTwo.{closed_below, settled_for, SettledHomes}
 use Rattle.model.specs.History.{World, lent, feed, is_confirm, begin_round, step_round, feed_change}
-use Rattle.model.specs.declared.Tag.{Tag}
 use Rattle.model_laws.proofs.state.BatchLaws.{AllFormed, formed-append}
 use Rattle.model_laws.proofs.state.PromiseLaws.{promise-set_settled, promise-set_fenced, promise-set_round, promise-set_cursor}
 use Rattle.model_laws.proofs.state.StateLaws.{with_settled, with_fenced, with_round, with_cursor, length-set_settled, length-set_fenced, length-set_round, length-set_cursor, state-set_settled, state-set_fenced, state-set_round, state-set_cursor, writer-set_settled, writer-set_fenced, writer-set_round, writer-set_cursor, held-set_settled, held-set_fenced, held-set_round, held-set_cursor}
 use Rattle.model_laws.proofs.state.QuestionLaws.{and-true, out-of-round, within-round}
 use Rattle.model_laws.proofs.trace.CrashLaws.{write_records, write-append}
 use Rattle.model_laws.proofs.trace.HomeLaws.{In, in-cases, in-marked, marked-in, marked-below}
-use Rattle.model_laws.proofs.trace.MixLaws.{group_part, home_part, mixed-append, mixed-homes, group_part-append, home_part-append, group_part-homes, home_part-homes}
-use Rattle.model_laws.proofs.trace.ReplayLaws.{Good, block_for, replay-home, length-block_at}
+use Rattle.model_laws.proofs.trace.MixLaws.{group_part, mixed-append, mixed-homes, group_part-append, home_part-append, group_part-homes, home_part-homes}
+use Rattle.model_laws.proofs.trace.ReplayLaws.{Good, replay-home, length-block_at}
 use Rattle.model_laws.proofs.trace.RestoreLaws.{in-at, take-marked, in-or-not, length-restored, restored-other, restored-in}
 use Rattle.model_laws.proofs.trace.TraceLaws.{All}
 use Rattle.model_laws.proofs.trace.WalkLaws.{closing_below}
-use Rattle.theorems.proofs.invariant.Invariant.{Sizes, Copies, Submitted, Running, touches_above}
-use Rattle.theorems.proofs.invariant.SettledLaws.{settled-done, settled-none, settled-ahead, settled_same, settled-homes-same, settled-fixed}
-use Rattle.theorems.proofs.invariant.LiveLog.{tags_in, base_of, end_of, kept_in, Shown, all-each, live-upto, upto-shown, lent-groups, lent-homes, lent-tags, lent-base}
+use Rattle.theorems.proofs.invariant.Invariant.{Sizes, Copies, Submitted, Running}
+use Rattle.theorems.proofs.invariant.SettledLaws.{settled-done, settled-none, settled-ahead, settled-fixed}
+use Rattle.theorems.proofs.invariant.LiveLog.{tags_in, end_of, kept_in, Shown, all-each, live-upto, upto-shown, lent-groups, lent-homes, lent-tags, lent-base}
 use Rattle.theorems.proofs.steps.DoneLaws.{after}
 use Rattle.theorems.proofs.steps.HomeRuns.{homes-since, homes-become, submitted-homes}
 use Rattle.theorems.proofs.steps.LogSubmits.{confirmed-more}
-use Rattle.theorems.proofs.steps.NumberRuns.{Renumbered, copies-renumber}
+use Rattle.theorems.proofs.steps.NumberRuns.{copies-renumber}
 use Rattle.theorems.proofs.steps.SettleRuns.{touches-found, settle-replay, settle-untouched, formed-homes}
 
 -- whether a round is under way, as the calls ask it

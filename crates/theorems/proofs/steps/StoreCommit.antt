@@ -1,44 +1,43 @@
 -- A store that logs the held block, and a commit.
 use mathlib.Core.Path.{◌≡◌, refl, sym, ap, ◌∙◌, subst}
-use mathlib.Core.Logic.{◌⊎◌, inl, inr, ⊎_elim}
-use mathlib.Core.Bool.{Bool, true, false, cond, ◌&&◌, false≢true}
-use mathlib.Core.List.{List, [], ◌∷◌, ◌++◌, append-nil, append_assoc}
-use mathlib.Core.Option.{Option, none, some}
-use Prim.Native.Nat.{ℕ, zero, suc, ◌+◌, ◌-◌, ◌*◌, ◌/◌, ◌%◌, ◌^◌, ◌≤◌, ◌<◌}
+use mathlib.Core.Logic.{inl, inr}
+use mathlib.Core.Bool.{Bool, true, false, cond}
+use mathlib.Core.List.{List, [], ◌∷◌, ◌++◌}
+use mathlib.Core.Option.{none, some}
+use Prim.Native.Nat.{ℕ, suc, ◌+◌, ◌-◌, ◌*◌, ◌/◌, ◌%◌, ◌^◌, ◌≤◌, ◌<◌}
 use native.Mathlib.Omega.{arith}
 use lib.ListN.{length}
-use lib.Dec.{eqb, leb}
-use borrow.Author.Tests.{eqb-true, eqb-false, eq-eqb, ne_eqb}
+use lib.Dec.{eqb}
+use borrow.Author.Tests.{ne_eqb}
 use Rattle.model.specs.Tag.{entry_word, closing_word}
-use Rattle.model.specs.Layout.{group_at, header_start}
-use Rattle.model.specs.State.{state_of, set_last, next_position, writer_of, set_writer, held_of, set_held, promise_of, set_promise, promise_left, promised, places, first_for, count_for, logging, idle}
+use Rattle.model.specs.Layout.{group_at}
+use Rattle.model.specs.State.{state_of, set_last, next_position, writer_of, set_writer, held_of, set_held, promise_of, set_promise, promise_left, places, first_for, count_for, logging, idle}
 use Rattle.model.specs.declared.State.{State}
 use Rattle.model.specs.declared.Writer.{Writer}
 use Rattle.model.specs.Rights.{keep_list}
-use Rattle.model.specs.Effects.{Given, Effect, homes, Logged, entered, logged, log_held, store_other, link_from, log_closing, commit_held}
-use Rattle.model.specs.Batch.{Record, GW, FN}
-use Rattle.model.specs.Crash.{Memory}
+use Rattle.model.specs.Effects.{Given, Logged, entered, logged, log_held, store_other, link_from, log_closing, commit_held}
+use Rattle.model.specs.Batch.{Record, GW}
 use Rattle.model.specs.Book.{Landing, row, Entry, Commit, Held, Task, opened, Book, fate_at, homes_after, entry_of, filled_up, with_task, add_commit}
 use Rattle.model.specs.Book as book
 use Rattle.model.specs.DemandTwo.{closed_below}
-use Rattle.model.specs.History.{Call, World, lent, feed, is_confirm, store, commit, feed_change}
+use Rattle.model.specs.History.{World, lent, feed, is_confirm, store, commit, feed_change}
 use Rattle.model_laws.proofs.state.StateLaws.{state-set_last, length-set_last, writer-set_last, held-set_last}
 use Rattle.model_laws.proofs.state.WriterLaws.{length-set_writer, length-set_held, state-set_writer, writer-set_writer, writer-set_writer-other, held-set_writer, state-set_held, writer-set_held, held-set_held, held-set_held-other, fits-idle, fits-logging}
 use Rattle.model_laws.proofs.state.SignLaws.{length-keep_list, state-keep_list, writer-keep_list, held-keep_list, promise-keep_list}
-use Rattle.model_laws.proofs.state.OrderLaws.{InOrder, WriterInOrder, Reserved, place-below}
+use Rattle.model_laws.proofs.state.OrderLaws.{WriterInOrder, Reserved, place-below}
 use Rattle.model_laws.proofs.state.QuestionLaws.{Roomy}
 use Rattle.model_laws.proofs.state.PromiseLaws.{promise-set_last, promise-set_writer, promise-set_held, length-set_promise, state-set_promise, writer-set_promise, held-set_promise, promise-set_promise, promise-set_promise-other, promise-most}
-use Rattle.model_laws.proofs.trace.Trace.{Ev, Hist, mine, hist, first_of, block_on, tag_at, tag_of, link_in, closer_of, oldest_of, Apart, LinkOk, Linked}
+use Rattle.model_laws.proofs.trace.Trace.{Ev, mine, hist, first_of, block_on, tag_at, tag_of, link_in, closer_of, oldest_of, LinkOk, Linked}
 use Rattle.model_laws.proofs.trace.TraceLaws.{tag_at-here, block_on-older, done-rising, all_map}
 use Rattle.model_laws.proofs.trace.LinkLaws.{linked-more, linked-ext, last_from}
-use Rattle.theorems.proofs.invariant.GrowLaws.{open_done, open-mine, close-done, close-mine, commits-open, commits-close, entries-here, mine-below, closed-snoc}
+use Rattle.theorems.proofs.invariant.GrowLaws.{open_done, open-mine, close-done, commits-open, commits-close, entries-here, mine-below, closed-snoc}
 use Rattle.theorems.proofs.invariant.GrowImages.{apart_snoc, closers-older, image-open, image-close}
 use Rattle.theorems.proofs.steps.DoneLaws.{after}
 use Rattle.theorems.proofs.steps.WriterSteps.{task-here, task-other, order-idle}
 use Rattle.theorems.proofs.steps.LogRuns.{Advance, advance-position, SameWriters, logged-writers, logged-numbers, logged-log, logged-records, promises-logged, copies-logged}
 use Rattle.theorems.proofs.steps.LogSubmits.{submitted-logged, confirmed-more, owed-snoc}
 use Rattle.theorems.proofs.steps.HeldLogs.{filled-tasks, filled-commits, event, so_far, Logging, logging-task, mine-event, last-closes, link-ok}
-use Rattle.theorems.proofs.invariant.Invariant.{Sizes, SoundAt, plain_of, entries_for, TaskOk, Copies, Submitted, Confirmed, Commits, Running, ImageOk, LastOk, last_closer, OwedBelow}
+use Rattle.theorems.proofs.invariant.Invariant.{Sizes, SoundAt, plain_of, entries_for, TaskOk, Copies, Running}
 use Rattle.model_laws.proofs.state.LoggingLaws.{Bounds, bounds, held-size, link-small}
 
 -- a commit that logs, and the transaction that it closes: in the trace, in the log copy and in the book

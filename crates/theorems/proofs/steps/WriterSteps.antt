@@ -1,14 +1,13 @@
 -- Calls that change one writer's record and promise and nothing else: begin, reserve, abort, a store that logs nothing, a commit of nothing.
 use mathlib.Core.Path.{◌≡◌, refl, sym, ap, ◌∙◌, subst}
-use mathlib.Core.Logic.{◌⊎◌, inl, inr}
-use mathlib.Core.Bool.{Bool, true, false, cond}
-use mathlib.Core.List.{List, [], ◌∷◌, ◌++◌, append-nil}
-use mathlib.Core.Option.{Option, none, some}
-use Prim.Native.Nat.{ℕ, zero, suc, ◌+◌, ◌-◌, ◌*◌, ◌^◌, ◌≤◌, ◌<◌}
+use mathlib.Core.Logic.{inl, inr}
+use mathlib.Core.Bool.{true, false}
+use mathlib.Core.List.{List, [], append-nil}
+use mathlib.Core.Option.{none, some}
+use Prim.Native.Nat.{ℕ, ◌+◌, ◌-◌, ◌*◌, ◌^◌, ◌≤◌, ◌<◌}
 use native.Mathlib.Omega.{arith}
 use native.Mathlib.Decide.{ℕ_discrete}
 use lib.ListN.{length}
-use lib.Dec.{eqb}
 use borrow.Author.Tests.{eq-eqb, ne_eqb, ltb-true, leb-false}
 use Rattle.model.specs.State.{state_of, next_position, writer_of, set_writer, held_of, set_held, promise_of, set_promise, promised, places, free_places, is_open_now, idle, begun, holding}
 use Rattle.model.specs.declared.State.{State}
@@ -22,8 +21,8 @@ use Rattle.model_laws.proofs.state.WriterLaws.{length-set_writer, length-set_hel
 use Rattle.model_laws.proofs.state.PromiseLaws.{promise-set_writer, promise-set_held, length-set_promise, state-set_promise, writer-set_promise, held-set_promise, promise-set_promise, promise-set_promise-other, promised-change}
 use Rattle.theorems.proofs.steps.DoneLaws.{after}
 use Rattle.model_laws.proofs.state.OrderLaws.{InOrder, WriterInOrder, Reserved}
-use Rattle.model_laws.proofs.trace.Trace.{Ev, Hist, hist}
-use Rattle.theorems.proofs.invariant.Invariant.{Copies, Submitted, Confirmed, Commits, Running, TaskOk, entries_for}
+use Rattle.model_laws.proofs.trace.Trace.{Ev, hist}
+use Rattle.theorems.proofs.invariant.Invariant.{Copies, Submitted, Confirmed, Running, TaskOk, entries_for}
 
 -- a strip that differs from another in the record, the block and the promise of one writer at most
 pub record SameBut (v : ℕ) (s t : List ℕ) : Type 0 where

@@ -2,7 +2,7 @@
 use Prim.Native.Nat.{ℕ}
 use mathlib.Core.Path.{◌≡◌, ap, ◌∙◌}
 use mathlib.Core.Logic.{inl, inr}
-use mathlib.Core.Bool.{true, false, not, false≢true}
+use mathlib.Core.Bool.{true, not, false≢true}
 use mathlib.Core.List.{List, [], ◌∷◌}
 use Rattle.model.specs.History.{Call, opening, confirm, change, service, Event, call, crash, World, empty_store, ends, is_opening, step, Allowed, AllAllowed}
 use Rattle.abstract_store.specs.Store.{Store, new_store, reply_of, reply, follow, found_in_memory, AnswersAt, AnswersThroughout, Answers}

@@ -1,21 +1,21 @@
 -- What the calls of rounds answer is what the abstract store says, and so for every call of an era. Assumes nothing.
 use Prim.Native.Nat.{ℕ, ◌+◌, ◌-◌, ◌*◌, ◌≤◌, ◌<◌}
 use mathlib.Core.Path.{◌≡◌, refl, sym, ap, ◌∙◌}
-use mathlib.Core.Bool.{Bool, true, false, cond, not, ◌&&◌, false≢true}
-use mathlib.Core.List.{List, [], ◌∷◌, ◌++◌}
+use mathlib.Core.Bool.{Bool, true, false, cond, ◌&&◌, false≢true}
+use mathlib.Core.List.{List, [], ◌∷◌}
 use native.Mathlib.Omega.{arith}
-use lib.Dec.{eqb, leb}
+use lib.Dec.{leb}
 use lib.ListN.{length, take, length-append}
 use lib.Seq.{take_all}
 use borrow.Author.Tests.{leb-true, leb-false}
 use Rattle.model.specs.Batch.{FN, batch_bytes}
-use Rattle.model.specs.Commit.{newest, found}
+use Rattle.model.specs.Commit.{newest}
 use Rattle.model.specs.State.{state_of, under_way, fixed_in}
 use Rattle.model.specs.declared.State.{State}
-use Rattle.model.specs.Effects.{Given, Effect, new_state, marked, home_writes, begin_round_effect, step_round_effect}
+use Rattle.model.specs.Effects.{Given, new_state, marked, home_writes, begin_round_effect, step_round_effect}
 use Rattle.model.specs.Questions.{ask, batch_fits, in_round, begin_round_answer, step_round_answer}
 use Rattle.model.specs.Calls.{size_of, begin_round_call, step_round_call}
-use Rattle.model.specs.DemandTwo.{closed_below, untrimmed, each_contents}
+use Rattle.model.specs.DemandTwo.{closed_below, untrimmed}
 use Rattle.model.specs.History.{Change, begins, reserves, aborts, stores, commits, flushes, Service, settles, round_begins, round_steps, trims, reads, Call, opening, confirm, change, service, World, lent, ends, change_ends, service_ends, is_opening}
 use Rattle.abstract_store.specs.Store.{Store, any_wrote, to_step, ask_batch, reply_of, reply_change, reply_service, reply}
 use Rattle.model_laws.proofs.state.BatchLaws.{batch-append, batch-one, length-FN}

@@ -5,7 +5,7 @@ use mathlib.Core.Logic.{inl, inr}
 use mathlib.Core.Bool.{true, false≢true}
 use mathlib.Core.List.{List, [], ◌∷◌}
 use Rattle.model.specs.Book.{Book}
-use Rattle.model.specs.History.{Event, World, empty_store, after_format, step, after, AllAllowed}
+use Rattle.model.specs.History.{Event, World, empty_store, step, after, AllAllowed}
 use Rattle.abstract_store.specs.Store.{Store, new_store, follow}
 use Rattle.model_laws.proofs.trace.TraceLaws.{All}
 use Rattle.theorems.specs.Isolation.{followed}

@@ -1,8 +1,8 @@
 -- The strip's numbers are the abstract store's at every moment after a done opening. Assumes nothing.
 use Prim.Native.Nat.{ℕ}
-use mathlib.Core.Path.{◌≡◌, sym, ap, ◌∙◌}
+use mathlib.Core.Path.{◌≡◌, sym, ◌∙◌}
 use mathlib.Core.Logic.{inl, inr}
-use mathlib.Core.Bool.{true, false, false≢true}
+use mathlib.Core.Bool.{true, false≢true}
 use mathlib.Core.List.{List, [], ◌∷◌}
 use Rattle.model.specs.History.{Event, World, empty_store, step, AllAllowed}
 use Rattle.abstract_store.specs.Store.{Store, new_store, follow}
@@ -11,7 +11,7 @@ use Rattle.theorems.proofs.invariant.Invariant.{Sizes, Running, Invariant}
 use Rattle.theorems.proofs.steps.FormatRuns.{sizes, after-format}
 use Rattle.theorems.proofs.steps.Beginning.{format-closed}
 use Rattle.theorems.proofs.demands.DemandThree.{keeps}
-use Rattle.theorems.proofs.store.StoreAgrees.{Numbers, Agrees, next-is, filled_is}
+use Rattle.theorems.proofs.store.StoreAgrees.{Agrees, next-is, filled_is}
 use Rattle.theorems.proofs.store.StoreFollows.{follows, empty-agrees}
 
 module _ (G D : ℕ) (z : Sizes G D) where

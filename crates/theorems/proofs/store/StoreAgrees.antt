@@ -9,7 +9,6 @@ use lib.Dec.{eqb, leb, ltb}
 use lib.ListN.{length, length-append}
 use borrow.Author.Tests.{eq-eqb}
 use Rattle.model.specs.Layout.{group_count, home_count, header_start}
-use Rattle.model.specs.Commit.{newest, found}
 use Rattle.model.specs.Batch.{GW, record_bytes, batch_bytes}
 use Rattle.model.specs.State.{state_of, next_position, promise_of, promised, places, is_open_now, holds}
 use Rattle.model.specs.declared.State.{State}

@@ -1,9 +1,9 @@
 -- The abstract store goes on agreeing with the world, call by call and crash by crash. Assumes nothing.
-use Prim.Native.Nat.{ℕ, zero, suc, ◌+◌, ◌-◌, ◌*◌, ◌^◌, ◌≤◌, ◌<◌}
+use Prim.Native.Nat.{ℕ, zero, suc, ◌+◌, ◌*◌, ◌^◌, ◌≤◌, ◌<◌}
 use mathlib.Core.Path.{◌≡◌, refl, sym, ap, ◌∙◌, subst}
 use mathlib.Core.Logic.{◌⊎◌, inl, inr}
 use mathlib.Core.Bool.{Bool, true, false, cond, not, false≢true}
-use mathlib.Core.List.{List, []}
+use mathlib.Core.List.{List}
 use native.Mathlib.Omega.{arith}
 use lib.Dec.{eqb, leb}
 use lib.ListN.{length}
@@ -33,7 +33,6 @@ use Rattle.theorems.proofs.steps.DoneLaws.{outcome-code}
 use Rattle.theorems.proofs.steps.Rows.{row_of, row-state}
 use Rattle.theorems.proofs.steps.Footprint.{shares, Touch, shares-open, shares-reserve, shares-abort, shares-store, shares-commit, Spares, frame, steady}
 use Rattle.theorems.proofs.steps.NewestSteps.{newest-length, open-newest}
-use Rattle.theorems.proofs.steps.SettleRuns.{numbers}
 use Rattle.theorems.proofs.steps.CrashRuns.{image, same_memory}
 use Rattle.theorems.proofs.steps.OpenStep.{open-effect}
 use Rattle.theorems.proofs.steps.Beginning.{formatted-start, formatted-found}

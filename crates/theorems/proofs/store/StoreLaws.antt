@@ -1,19 +1,19 @@
 -- Laws of the abstract store's definitions: the homes that transactions write, the lengths of batches. Assumes nothing.
-use Prim.Native.Nat.{ℕ, zero, suc, ◌+◌, ◌-◌, ◌*◌, ◌≤◌, ◌<◌}
+use Prim.Native.Nat.{ℕ, zero, suc, ◌+◌, ◌*◌, ◌<◌}
 use mathlib.Core.Path.{◌≡◌, refl, sym, ap, ◌∙◌}
-use mathlib.Core.Logic.{◌⊎◌, inl, inr}
-use mathlib.Core.Bool.{Bool, true, false, cond, not, ◌&&◌, ◌||◌, or_comm, false≢true}
+use mathlib.Core.Logic.{inl, inr}
+use mathlib.Core.Bool.{Bool, true, false, cond, ◌||◌, or_comm}
 use mathlib.Core.List.{List, [], ◌∷◌, ◌++◌}
-use mathlib.Core.Option.{Option, none, some}
+use mathlib.Core.Option.{some}
 use native.Mathlib.Omega.{arith}
-use lib.Dec.{eqb, leb, ltb}
+use lib.Dec.{eqb}
 use lib.ListN.{length, length-append}
 use Rattle.model.specs.Tag.{home_of}
 use Rattle.model.specs.declared.Tag.{Tag}
 use Rattle.model.specs.Layout.{unused_group, block_at, home_at}
-use Rattle.model.specs.Commit.{newest_in, or_else, newest, found}
+use Rattle.model.specs.Commit.{newest_in, newest, found}
 use Rattle.model.specs.Batch.{Record, GW, HW, KW, FN, record_bytes, batch_bytes}
-use Rattle.model.specs.Effects.{Given, Effect, marked, blank_writes, home_writes}
+use Rattle.model.specs.Effects.{marked, blank_writes, home_writes}
 use Rattle.model.specs.Book.{Held}
 use Rattle.model.specs.DemandTwo.{contents, each_contents}
 use Rattle.abstract_store.specs.Store.{wrote, any_wrote}
@@ -21,7 +21,6 @@ pub use Rattle.abstract_store.proofs.ReplyLaws.{reply-outcome, told_same, answer
 use Rattle.model_laws.proofs.bytes.ByteLaws.{length_part}
 use Rattle.model_laws.proofs.bytes.EmptyLaws.{length-unused_group}
 use Rattle.model_laws.proofs.state.BatchLaws.{length-GW, length-HW, length-KW, length-FN, batch-append, batch-one}
-use Rattle.model_laws.proofs.state.QuestionLaws.{ask-passed}
 use Rattle.model_laws.proofs.trace.HomeLaws.{In}
 use Rattle.theorems.proofs.invariant.LiveLog.{found-else}
 

@@ -16,7 +16,7 @@ use Rattle.model.specs.Questions.{block_right, writer_known, start_fits, begin_a
 use Rattle.model.specs.Calls.{Outcome, done, outcome, size_of, begin_call, reserve_call, abort_call, store_call, commit_call, flush_call, confirm_call, settle_call, trim_call, read_call}
 use Rattle.model.specs.Book.{Book}
 use Rattle.model.specs.Book as book
-use Rattle.model.specs.History.{Change, begins, reserves, aborts, stores, commits, flushes, Service, settles, trims, reads, confirm, change, service, World, lent, ends, change_ends, service_ends, round_begins, round_steps, store}
+use Rattle.model.specs.History.{Change, begins, reserves, aborts, stores, commits, flushes, Service, settles, trims, reads, confirm, change, service, World, lent, ends, change_ends, service_ends, round_begins, round_steps}
 use Rattle.abstract_store.specs.Store.{Store, group_of_first, next_group, last_after, fenced_after, numbered, trimmed_to, after_service}
 use Rattle.abstract_store.specs.Store as store
 use Rattle.model_laws.proofs.state.StateLaws.{with_start, with_fenced, with_settled, with_last, with_durable, with_next, with_filled, length-set_next, length-set_filled, state-set_next, state-set_filled, state-set_fenced, state-set_durable, state-set_last}
