@@ -15,7 +15,7 @@ use Rattle.model.specs.Tag.{tag_word, entry_word, field, home_field, read_tag, b
 use Rattle.model.specs.Layout.{group_tag, tag_offset, group_valid, top_bit, turn_of, word_there, entry_within, entry_at}
 use Rattle.model.specs.declared.Tag.{Tag}
 use Rattle.model.specs.declared.Tag.TheVariants.{Nothing, Entry, Closing}
-use Rattle.model_laws.proofs.bytes.TagLaws.{field_lt, read-zero, entry-fields, closing-fields, entry-fits}
+use Rattle.model_laws.proofs.bytes.TagLaws.{field_lt, read-zero, entry-fields, closing-fields}
 use Rattle.base_codec.proofs.PlainLaws.{and-field}
 use Rattle.log_scan.specs.Members.{taking}
 use Rattle.log_scan.specs.Scan.{over}

@@ -1,4 +1,6 @@
 // Read's search: the newest entry of a home in a writer's open transaction.
+#![tactic(auto)]
+
 mod own;
 mod sought;
 

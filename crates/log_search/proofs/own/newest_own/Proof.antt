@@ -1,11 +1,11 @@
 -- `log_search::newest_own` meets its contract. The loop's invariant: what is found so far is the newest of the positions from group `number` on, and `at` is
 -- the ring slot of that group. Assumes nothing.
-use mathlib.Core.Path.{◌≡◌, refl, sym, ap, ◌∙◌}
+use mathlib.Core.Path.{◌≡◌, refl, sym, ◌∙◌}
 use mathlib.Core.Bool.{cond}
-use Prim.Native.Nat.{◌+◌, ◌-◌, ◌*◌, ◌/◌, ◌≤◌, ◌<◌}
+use Prim.Native.Nat.{◌-◌, ◌*◌, ◌≤◌, ◌<◌}
 use native.Mathlib.Omega.{arith}
 use lib.Dec.{eqb}
-use lib.ListN.{length, length-take, length-drop}
+use lib.ListN.{length-take, length-drop}
 use Rattle.model.specs.Layout.{entry_at}
 use Rattle.log_scan.specs.Slots.{SlotOf}
 use Rattle.log_scan.proofs.MemberPass.{over-before}
@@ -15,7 +15,7 @@ use Rattle.log_search.proofs.SoughtLaws.{back-turn, found_here, found_below, fou
 use Rattle.log_search.proofs.own.newest_own.Statement.{statement}
 use Rattle.log_search.proofs.own.newest_own.Tie as tie
 
-abbrev invariant-loop : tie.invariant-loop
+abbrev invariant-loop : tie.invariant-loop-number
 invariant-loop log groups homes start first end home lowest number₀ at₀ m from newest₀ number at newest =
     (noted (entry_at log groups homes start) home first (7 * start) (end - 7 * start) 0
     ≡ cond (eqb newest 0) (noted (entry_at log groups homes start) home first (7 * start) (7 * number - 7 * start) 0) newest)
@@ -23,87 +23,86 @@ invariant-loop log groups homes start first end home lowest number₀ at₀ m fr
     × (lowest ≤ number)
     × (7 * number < end)
 
-abbrev decreases-loop : tie.decreases-loop
+abbrev decreases-loop : tie.decreases-loop-number
 decreases-loop log groups homes start first end home lowest number₀ at₀ m from newest₀ number at newest = number
 
-sub_number : tie.Need-overflow-sub-number invariant-loop decreases-loop
+sub_number : tie.Need-overflow_sub-number invariant-loop decreases-loop
 sub_number c = omega arith
 
-first-slot-requires : tie.Need-first-slot-requires invariant-loop decreases-loop
+first-slot-requires : tie.Need-first_slot-at-requires invariant-loop decreases-loop
 first-slot-requires c κs = omega arith
 
-mul-m : tie.Need-overflow-mul-m invariant-loop decreases-loop
+mul-m : tie.Need-overflow_mul-m invariant-loop decreases-loop
 mul-m c = omega arith
 
-sub-m : tie.Need-overflow-sub-m invariant-loop decreases-loop
+sub-m : tie.Need-overflow_sub-m invariant-loop decreases-loop
 sub-m c = omega arith
 
-mul-from : tie.Need-overflow-mul-from invariant-loop decreases-loop
+mul-from : tie.Need-overflow_mul-from invariant-loop decreases-loop
 mul-from c = omega arith
 
-add-from : tie.Need-overflow-add-from invariant-loop decreases-loop
+add-from : tie.Need-overflow_add-from invariant-loop decreases-loop
 add-from c = omega arith
 
-add-group : tie.Need-overflow-add-group invariant-loop decreases-loop
+add-group : tie.Need-overflow_add-group invariant-loop decreases-loop
 add-group c = omega arith
 
-sub-group : tie.Need-overflow-sub-group invariant-loop decreases-loop
+sub-group : tie.Need-slice_bounds-group-count invariant-loop decreases-loop
 sub-group c = omega arith
 
-part-group-start : tie.Need-slice-bounds-group-start invariant-loop decreases-loop
+part-group-start : tie.Need-slice_bounds-group-start invariant-loop decreases-loop
 part-group-start c = omega arith
 
-part-group-end : tie.Need-slice-bounds-group-end invariant-loop decreases-loop
+part-group-end : tie.Need-slice_bounds-group-end invariant-loop decreases-loop
 part-group-end c = omega arith
 
-note-group-requires : tie.Need-note-group-requires invariant-loop decreases-loop
+note-group-requires : tie.Need-note_group-newest-requires invariant-loop decreases-loop
 note-group-requires c κs = (
   simp (length-take, length-drop) (omega arith),
   omega arith,
   omega arith,
   omega arith,
-  c.before.first_slot.ensures.turn,
+  c.first_slot-at.ensures.turn,
   omega arith,
   omega arith,
 )
 
-loop-holds : tie.Need-loop-init invariant-loop decreases-loop
+loop-holds : tie.Need-loop-number-init invariant-loop decreases-loop
 loop-holds c =
-    let r = c.before.before.first_slot.ensures in
-    (back-turn _ _ _ _ _ _ _ _ _ _ _ _ (omega arith) (omega arith) r.same refl (omega arith) c.note-group.ensures, r, omega arith, omega arith)
+    let r = c.first_slot-at.ensures in
+    (back-turn _ _ _ _ _ _ _ _ _ _ _ _ (omega arith) (omega arith) r.same refl (omega arith) c.note_group-newest.ensures, r, omega arith, omega arith)
 
-returns : tie.Need-returns invariant-loop decreases-loop
-returns c = own-all _ _ _ _ _ _ (found_here _ _ _ c.before.before.loop.invariant.0 c.if1.true)
+returns : tie.Need-returns-then-newest-ne0 invariant-loop decreases-loop
+returns c = own-all _ _ _ _ _ _ (found_here _ _ _ c.loop-number.invariant.0 c.if-newest-ne0.true)
 
-previous-slot-requires : tie.Need-previous-slot-requires invariant-loop decreases-loop
+previous-slot-requires : tie.Need-previous_slot-at-requires invariant-loop decreases-loop
 previous-slot-requires c κs = omega arith
 
-sub-number-2 : tie.Need-overflow-sub-number-2 invariant-loop decreases-loop
+sub-number-2 : tie.Need-overflow_sub-number-in-loop-number invariant-loop decreases-loop
 sub-number-2 c = omega arith
 
-mul-from-2 : tie.Need-overflow-mul-from-2 invariant-loop decreases-loop
+mul-from-2 : tie.Need-overflow_mul-from-in-loop-number invariant-loop decreases-loop
 mul-from-2 c = omega arith
 
-add-from-2 : tie.Need-overflow-add-from-2 invariant-loop decreases-loop
+add-from-2 : tie.Need-overflow_add-from-in-loop-number invariant-loop decreases-loop
 add-from-2 c = omega arith
 
-add-group-2 : tie.Need-overflow-add-group-2 invariant-loop decreases-loop
+add-group-2 : tie.Need-overflow_add-group-in-loop-number invariant-loop decreases-loop
 add-group-2 c = omega arith
 
-sub-group-2 : tie.Need-overflow-sub-group-2 invariant-loop decreases-loop
+sub-group-2 : tie.Need-slice_bounds-group-count-in-loop-number invariant-loop decreases-loop
 sub-group-2 c = omega arith
 
-part-group-start-2 : tie.Need-slice-bounds-group-start-2 invariant-loop decreases-loop
+part-group-start-2 : tie.Need-slice_bounds-group-start-in-loop-number invariant-loop decreases-loop
 part-group-start-2 c = omega arith
 
-part-group-end-2 : tie.Need-slice-bounds-group-end-2 invariant-loop decreases-loop
+part-group-end-2 : tie.Need-slice_bounds-group-end-in-loop-number invariant-loop decreases-loop
 part-group-end-2 c = omega arith
 
-note-seven-requires : tie.Need-note-seven-requires invariant-loop decreases-loop
+note-seven-requires : tie.Need-note_seven-newest-requires invariant-loop decreases-loop
 note-seven-requires c κs =
-    let p = c.before in
-    let l = p.before.before.before.loop in
-    let r = p.previous-slot.ensures.1 _ (omega arith) l.invariant.1 in (
+    let l = c.loop-number in
+    let r = c.previous_slot-at.ensures.1 _ (omega arith) l.invariant.1 in (
       simp (length-take, length-drop) (omega arith),
       omega arith,
       omega arith,
@@ -114,29 +113,28 @@ note-seven-requires c κs =
       omega arith,
     )
 
-loop-less : tie.Need-loop-smaller invariant-loop decreases-loop
+loop-less : tie.Need-loop-number-smaller invariant-loop decreases-loop
 loop-less c = omega arith
 
-loop-again : tie.Need-loop-preserved invariant-loop decreases-loop
+loop-again : tie.Need-loop-number-preserved invariant-loop decreases-loop
 loop-again c =
-    let p = c.before.before in
-    let l = p.before.before.before.loop in
-    let r = p.previous-slot.ensures.1 _ (omega arith) l.invariant.1 in
-    let q = c.before.before.before.before.before.before.before.before.before.before.requires.0 in
-    let b = found_below _ _ _ l.invariant.0 p.before.if1.false in (
-      b ∙ back-turn _ _ _ _ _ _ _ _ _ _ _ _ (omega arith) (omega (arith, q.from, l.invariant.2, p.before.before.loop-test.true)) r.same refl (omega arith) c.note-seven.ensures,
+    let l = c.loop-number in
+    let r = c.previous_slot-at.ensures.1 _ (omega arith) l.invariant.1 in
+    let q = c.requires.0 in
+    let b = found_below _ _ _ l.invariant.0 c.if-newest-ne0.false in (
+      b ∙ back-turn _ _ _ _ _ _ _ _ _ _ _ _ (omega arith) (omega (arith, q.from, l.invariant.2, c.loop-number-test.true)) r.same refl (omega arith) c.note_seven-newest.ensures,
       r,
       omega arith,
       omega arith,
     )
 
-returns-2 : tie.Need-returns-2 invariant-loop decreases-loop
+returns-2 : tie.Need-returns invariant-loop decreases-loop
 returns-2 c =
-    let l = c.before.loop in
+    let l = c.loop-number in
     own-all _ _ _ _ _ _ (found_nowhere _ _ _ l.invariant.0 (sym (over-before _ (note_at _) _ _ _ _ (omega arith))))
 
-pub newest-own-spec : {M : Type 1} → statement M
-newest-own-spec =
+pub newest_own_spec : {M : Type 1} → statement M
+newest_own_spec =
     tie.close
     (tie.spec
     invariant-loop

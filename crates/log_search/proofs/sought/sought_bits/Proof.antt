@@ -8,16 +8,16 @@ use borrow.Author.Rules.{rules}
 use Rattle.log_search.proofs.sought.sought_bits.Statement.{statement}
 use Rattle.log_search.proofs.sought.sought_bits.Tie as tie
 
-entry-word-requires : tie.Need-entry-word-requires
+entry-word-requires : tie.Need-entry_word-requires
 entry-word-requires c κs = search rules
 
-sub-result : tie.Need-overflow-sub-result
-sub-result c = omega (arith, positive _ _ c.entry-word.ensures)
+sub-result : tie.Need-overflow_sub-result
+sub-result c = omega (arith, positive _ _ c.entry_word.ensures)
 
 returns : tie.Need-returns
 returns c =
-    let p = c.before.requires in
-    (ap (λ (x : ℕ). x - 1) c.entry-word.ensures ∙ bits_of _ _, omega (arith, c.entry-word.ensures, entry-fits _ _ p.0 p.1))
+    let p = c.requires in
+    (ap (λ (x : ℕ). x - 1) c.entry_word.ensures ∙ bits_of _ _, omega (arith, c.entry_word.ensures, entry-fits _ _ p.0 p.1))
 
-pub sought-bits-spec : {M : Type 1} → statement M
-sought-bits-spec = tie.close (tie.spec entry-word-requires sub-result returns)
+pub sought_bits_spec : {M : Type 1} → statement M
+sought_bits_spec = tie.close (tie.spec entry-word-requires sub-result returns)
