@@ -1,15 +1,19 @@
 // Runs a script of calls, read from standard input, on a newly formatted and opened store of 4 groups and 8 homes: the paper's
-// trial 14. Of standard input the first 65,536 bytes are read. A last line without a line end counts.
+// trial 14. Of standard input the first 65,536 bytes are read. A last line without a line end counts. A read or a write that fails
+// ends the run.
+#![tactic(auto)]
+
 mod show;
 
-ghost use Rattle.std.specs.Prelude.{◌≡◌, replicate};
+ghost use Rattle.std.specs.Prelude.{◌≡◌, ◌≤◌, IfOk, length, replicate};
 ghost use Rattle.model.specs.Calls.{store_call};
 ghost use Rattle.call_ask.specs.Lent.{lent, leaves};
 ghost use Rattle.prog_script.specs.Call.{memory, Does};
 
 use call_ask::Reply;
-use libc::STDIN_FILENO;
 use prog_lines::Line;
+use std::io;
+use std::io::Read;
 
 // Stores a block full of one byte.
 fn store(
@@ -74,57 +78,75 @@ fn call(
 
 // Runs a line, and shows what came of it.
 fn run(
+    rt: &impl Print,
     log: &mut [u8],
     area: &mut [u8],
     state: &mut [u8],
     newest: &mut [u8],
     batch: &mut [u8],
     line: &[u8],
-) {
+) -> io::Result<()> {
     let reply = call(log, area, state, newest, batch, prog_lines::parse(line));
     if reply.code == MALFORMED {
-        show::malformed();
-        return;
+        return show::malformed(rt);
     }
-    show::show(batch, reply.size, reply.code);
+    show::show(rt, batch, reply.size, reply.code)
 }
 
 // Runs each line of a script.
 fn run_all(
+    rt: &impl Print,
     log: &mut [u8],
     area: &mut [u8],
     state: &mut [u8],
     newest: &mut [u8],
     batch: &mut [u8],
     script: &[u8],
-) {
+) -> io::Result<()> {
     let mut at: usize = 0;
     while at < script.len() {
         let end = prog_lines::until(script, at, b'\n');
-        run(log, area, state, newest, batch, &script[at..end]);
+        run(rt, log, area, state, newest, batch, &script[at..end])?;
         if end == script.len() {
-            return;
+            return Ok(());
         }
         at = end + 1;
     }
+    Ok(())
 }
 
-fn main() {
+// Reads until the buffer is full or the input ends, and returns how many bytes were read.
+fn read_full(input: &mut impl Read, buffer: &mut [u8]) -> io::Result<usize>
+    ensures { IfOk result (λ n. n ≤ length buffer.new) }
+{
+    let mut done = 0;
+    while done < buffer.len() {
+        let n = input.read(&mut buffer[done..])?;
+        if n == 0 {
+            break;
+        }
+        done += n;
+    }
+    Ok(done)
+}
+
+fn main(rt: HostRuntime) -> io::Result<()> {
     let mut log = [0u8; 2112];
     let mut area = [0u8; 512];
     let mut state = [0u8; 1024];
     let mut newest = [0u8; 64];
     let mut batch = [0u8; 4096];
-    let mut input = io::large_buffer();
-    let n = io::read_full(STDIN_FILENO, &mut input);
+    let mut input = [0u8; 65536];
+    let n = read_full(&mut rt.stdin(), &mut input)?;
     call_open::format(&mut log, &mut area, &mut batch);
     call_open::reopen(&mut log, &mut area, &mut state, &mut newest, &mut batch);
     run_all(
+        &rt,
         &mut log,
         &mut area,
         &mut state,
         &mut newest,
         &mut batch,
         &input[..n],
-    );
+    )
 }

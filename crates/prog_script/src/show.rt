@@ -1,74 +1,73 @@
 // What a call is shown by: the records of its batch, one to a line, and its answer.
-ghost use Rattle.std.specs.Prelude.{◌<◌, ◌≤◌, length};
+ghost use Rattle.std.specs.Prelude.{◌<◌, ◌≤◌, IfOk, length};
 
-use libc::STDOUT_FILENO;
+use std::io;
 
 // Writes a line of a record's mark and a number.
-fn numbered(mark: &[u8], n: u64) {
-    io::write_all(STDOUT_FILENO, mark);
-    io::print_decimal(STDOUT_FILENO, n);
-    io::write_all(STDOUT_FILENO, b"\n");
+fn numbered(rt: &impl Print, mark: &str, n: u64) -> io::Result<()> {
+    println!(rt; "{mark}{n}")
 }
 
 // Writes the line of the record at index `at` of a batch of `size` bytes, and returns the index after it. The marks differ in
 // their first byte; bytes that make no record, which no call writes, end the batch.
-fn record(batch: &[u8], at: usize, size: usize) -> usize
+fn record(rt: &impl Print, batch: &[u8], at: usize, size: usize) -> io::Result<usize>
     requires { (at < size) × (size ≤ length batch.now) }
-    ensures { (at < result) × (result ≤ size) }
+    ensures { IfOk result (λ after. (at < after) × (after ≤ size)) }
 {
     let left = size - at;
     let mark = batch[at];
     if left < 2 {
-        return size;
+        return Ok(size);
     }
     if mark == b'F' {
-        io::write_all(STDOUT_FILENO, b"FN\n");
-        return at + 2;
+        println!(rt; "FN")?;
+        return Ok(at + 2);
     }
     if left < 66 {
-        return size;
+        return Ok(size);
     }
     if mark == b'K' {
-        numbered(b"KW ", base_codec::number(batch, at + 4, 6));
-        return at + 66;
+        numbered(rt, "KW ", base_codec::number(batch, at + 4, 6))?;
+        return Ok(at + 66);
     }
     if left < 68 {
-        return size;
+        return Ok(size);
     }
     if mark == b'H' {
-        numbered(b"HW ", base_codec::number(batch, at + 2, 2));
-        return at + 68;
+        numbered(rt, "HW ", base_codec::number(batch, at + 2, 2))?;
+        return Ok(at + 68);
     }
     if left < 516 {
-        return size;
+        return Ok(size);
     }
     if mark == b'G' {
-        numbered(b"GW ", base_codec::number(batch, at + 2, 2));
-        return at + 516;
+        numbered(rt, "GW ", base_codec::number(batch, at + 2, 2))?;
+        return Ok(at + 516);
     }
-    size
+    Ok(size)
 }
 
 // Writes the line of each record of a batch of `size` bytes.
-fn records(batch: &[u8], size: usize)
+fn records(rt: &impl Print, batch: &[u8], size: usize) -> io::Result<()>
     requires { size ≤ length batch.now }
 {
     let mut at: usize = 0;
     while at < size {
-        at = record(batch, at, size);
+        at = record(rt, batch, at, size)?;
     }
+    Ok(())
 }
 
 // Writes the records in the first `size` bytes of the batch, and the answer.
-pub fn show(batch: &[u8], size: u64, code: u64) {
+pub fn show(rt: &impl Print, batch: &[u8], size: u64, code: u64) -> io::Result<()> {
     let n = size as usize;
     if n <= batch.len() {
-        records(batch, n);
+        records(rt, batch, n)?;
     }
-    numbered(b"= ", code);
+    numbered(rt, "= ", code)
 }
 
 // Says that a line is malformed.
-pub fn malformed() {
-    io::write_all(STDOUT_FILENO, b"?\n");
+pub fn malformed(rt: &impl Print) -> io::Result<()> {
+    println!(rt; "?")
 }
