@@ -3,7 +3,7 @@ ghost use Rattle.std.specs.Prelude.{ℕ, ◌+◌, ◌-◌, ◌<◌, ◌≤◌};
 ghost use Rattle.log_scan.specs.Slots.{SlotOf};
 
 // Where a group lies in the ring, and the turn bit of its data blocks.
-#[derive(Drop)]
+#[derive(Clone, Copy)]
 pub struct RingSlot {
     pub slot: u64,
     pub turn: u64,
