@@ -1,5 +1,5 @@
 -- Under a list of rights that keeps a unit's homes for its own writers nobody else's store is done there. Assumes nothing.
-use Prim.Native.Nat.{ℕ, zero, suc, ◌+◌, ◌-◌, ◌*◌, ◌/◌, ◌≤◌, ◌<◌}
+use Prim.Native.Nat.{ℕ, ◌+◌, ◌-◌, ◌*◌, ◌/◌, ◌≤◌, ◌<◌}
 use mathlib.Core.Path.{◌≡◌, refl, sym, ap, ◌∙◌, subst}
 use mathlib.Core.Logic.{◌⊎◌, inl, inr}
 use mathlib.Core.Bool.{Bool, true, false, cond, not, false≢true}
@@ -10,7 +10,7 @@ use lib.Dec.{eqb}
 use lib.ListN.{length}
 use Rattle.model.specs.Bytes.{zeros}
 use Rattle.model.specs.Rights.{may_store}
-use Rattle.model.specs.History.{Change, begins, reserves, aborts, stores, commits, flushes, Call, opening, confirm, change, service, store, Event, call, crash, World, Formatting, after_format, ends, is_opening}
+use Rattle.model.specs.History.{Change, begins, reserves, aborts, stores, commits, flushes, opening, confirm, change, service, call, crash, World, Formatting, after_format, ends, is_opening}
 use Rattle.acts.specs.Units.{Act, plain, transacts, fetches, revises, transact_ends, act, acted, ActAllowed, AllActsAllowed, Apart, SparedByChange}
 use Rattle.unit_events.specs.Folded.{Step, acts, offers, sets, read_for, event_answer, storing, acts_of, stepped, StepAllowed, AllStepsAllowed, SparedByAct, SparedBySteps}
 use Rattle.unit_events.specs.Promises.{list_in, RightsHad}

@@ -1,5 +1,5 @@
 -- The homes of the requests are apart. Assumes nothing.
-use mathlib.Core.Logic.{inl, inr}
+use mathlib.Core.Logic.{inr}
 use native.Mathlib.Omega.{arith}
 use Rattle.unit_events.specs.Homes.{HomesApart}
 

@@ -1,8 +1,8 @@
 -- The store's promises to events. Assumes nothing.
-use Prim.Native.Nat.{ℕ, zero, suc, ◌+◌, ◌*◌, ◌/◌, ◌≤◌, ◌<◌}
-use mathlib.Core.Path.{◌≡◌, refl, sym, ap, ◌∙◌}
-use mathlib.Core.Bool.{Bool, true, not}
-use mathlib.Core.List.{List, [], ◌∷◌, append-nil}
+use Prim.Native.Nat.{ℕ, zero, suc, ◌+◌, ◌/◌, ◌≤◌, ◌<◌}
+use mathlib.Core.Path.{◌≡◌, sym, ◌∙◌}
+use mathlib.Core.Bool.{true}
+use mathlib.Core.List.{List, append-nil}
 use lib.ListN.{length}
 use Rattle.model.specs.Batch.{read_batch, read_records}
 use Rattle.model.specs.State.{list_sign}
@@ -13,7 +13,7 @@ use Rattle.model.specs.Calls.{refused, outcome, size_of, store_call}
 use Rattle.model.specs.History.{store, call, World, after_format, lent, ends, change_ends, is_opening, after_call, after_refused, step}
 use Rattle.abstract_store.specs.Store.{Store, new_store, list_of, reply_change, reply}
 use Rattle.acts.specs.Many.{blocks_lent, may_store_all, transact_effect, transact_answer, transact_call}
-use Rattle.acts.specs.Units.{plain, transacts, transact_ends, act, acted}
+use Rattle.acts.specs.Units.{plain, transact_ends, act, acted}
 use Rattle.model_laws.proofs.state.QuestionLaws.{ask-passed}
 use Rattle.acts.proofs.ManyLaws.{each_of, transact-ready}
 use Rattle.theorems.proofs.steps.DoneLaws.{outcome-code}
@@ -21,7 +21,7 @@ use Rattle.theorems.proofs.store.Reached.{Reached, begins, call-code, kept_then,
 use Rattle.theorems.proofs.rights.ListRights.{rights-same}
 use Rattle.theorems.proofs.many.StoreMany.{told-code}
 use Rattle.theorems.proofs.many.ActsHold.{refused-stays, fetch-stays, revise-stays, Somewhere, acts-somewhere}
-use Rattle.unit_events.specs.Promises.{Stays, RefusalsStay, list_in, RightsHad, RightsAlwaysHad}
+use Rattle.unit_events.specs.Promises.{RefusalsStay, list_in, RightsHad, RightsAlwaysHad}
 
 -- a refused store leaves the world as it is
 store-left : (w : World) (v h : ℕ) (block batch : List ℕ) (a : ℕ) (e : Effect) → ((outcome (lent w block batch v h) a e).code ≡ 0 → ⊥)
