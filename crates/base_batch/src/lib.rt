@@ -1,4 +1,6 @@
 // The records of a batch, appended to its buffer at an offset, as model/specs/Batch defines their bytes.
+#![tactic(auto)]
+
 mod format;
 mod marked;
 mod records;

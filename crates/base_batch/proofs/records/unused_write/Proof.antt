@@ -6,35 +6,33 @@ use Rattle.base_batch.proofs.RecordLaws.{unused-written}
 use Rattle.base_batch.proofs.records.unused_write.Statement.{statement}
 use Rattle.base_batch.proofs.records.unused_write.Tie as tie
 
-put-group-write-mark-requires : tie.Need-put-group-write-mark-requires
+put-group-write-mark-requires : tie.Need-put_group_write_mark-requires
 put-group-write-mark-requires c κs = search rules
 
-add-put-number : tie.Need-overflow-add-put-number
+add-put-number : tie.Need-overflow_add-at
 add-put-number c = search rules
 
-put-number-requires : tie.Need-put-number-requires
+put-number-requires : tie.Need-put_number-requires
 put-number-requires c κs = search rules
 
-add-put-unused : tie.Need-overflow-add-put-unused
+add-put-unused : tie.Need-overflow_add-at-2
 add-put-unused c = search rules
 
-put-unused-requires : tie.Need-put-unused-requires
+put-unused-requires : tie.Need-put_unused-requires
 put-unused-requires c κs = search rules
 
-add-result : tie.Need-overflow-add-result
+add-result : tie.Need-overflow_add-result
 add-result c = search rules
 
-same_length : tie.Need-same-length
+same_length : tie.Need-shape_of-batch
 same_length c = search rules
 
 returns : tie.Need-returns
 returns c =
-    let n = c.before.before.before.before.before.before in
-    let m = n.before.before.before.before in
-    (omega arith, c.before.before.put-unused.ensures ∙ rw (n.put-number.ensures, m.put-group-write-mark.ensures) (unused-written _ _ _ _))
+    (omega arith, c.put_unused.ensures ∙ rw (c.put_number.ensures, c.put_group_write_mark.ensures) (unused-written _ _ _ _))
 
-pub unused-write-spec : {M : Type 1} → statement M
-unused-write-spec =
+pub unused_write_spec : {M : Type 1} → statement M
+unused_write_spec =
     tie.close
     (tie.spec
     put-group-write-mark-requires

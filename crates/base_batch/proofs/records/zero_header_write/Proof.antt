@@ -6,28 +6,27 @@ use Rattle.base_batch.proofs.RecordLaws.{header-written}
 use Rattle.base_batch.proofs.records.zero_header_write.Statement.{statement}
 use Rattle.base_batch.proofs.records.zero_header_write.Tie as tie
 
-put-header-write-mark-requires : tie.Need-put-header-write-mark-requires
+put-header-write-mark-requires : tie.Need-put_header_write_mark-requires
 put-header-write-mark-requires c κs = search rules
 
-add-clear : tie.Need-overflow-add-clear
+add-clear : tie.Need-overflow_add-at
 add-clear c = search rules
 
 clear-requires : tie.Need-clear-requires
 clear-requires c κs = search rules
 
-add-result : tie.Need-overflow-add-result
+add-result : tie.Need-overflow_add-result
 add-result c = search rules
 
-same_length : tie.Need-same-length
+same_length : tie.Need-shape_of-batch
 same_length c = search rules
 
 returns : tie.Need-returns
 returns c =
-    let m = c.before.before.before.before.before.before in
-    (omega arith, c.before.before.clear.ensures ∙ rw m.put-header-write-mark.ensures (header-written _ _ _))
+    (omega arith, c.clear.ensures ∙ rw c.put_header_write_mark.ensures (header-written _ _ _))
 
-pub zero-header-write-spec : {M : Type 1} → statement M
-zero-header-write-spec =
+pub zero_header_write_spec : {M : Type 1} → statement M
+zero_header_write_spec =
     tie.close
     (tie.spec
     put-header-write-mark-requires
