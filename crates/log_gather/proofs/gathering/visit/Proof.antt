@@ -7,74 +7,74 @@ use Rattle.log_gather.proofs.ChainLaws.{entry-bounds, closing-bounds, note-nothi
 use Rattle.log_gather.proofs.gathering.visit.Statement.{statement}
 use Rattle.log_gather.proofs.gathering.visit.Tie as tie
 
-sub-offset : tie.Need-overflow-sub-offset
+sub-offset : tie.Need-overflow_sub-offset
 sub-offset c = search rules
 
-read-tag-requires : tie.Need-read-tag-requires
+read-tag-requires : tie.Need-read_tag-requires
 read-tag-requires c κs = search rules
 
-enum_told : tie.Need-enum-told
+enum_told : tie.Need-enum_told-1
 enum_told c = search rules
 
-enum-known-home : tie.Need-enum-known-home
+enum-known-home : tie.Need-enum_known-home
 enum-known-home c = search rules
 
 chain-requires : tie.Need-chain-requires
 chain-requires c κs =
-    let p = c.before.before.before.before.before.before.before.before.before.requires.3 in
-    let b = entry-bounds _ _ _ _ _ c.before.before.before.before.before.read-tag.ensures _ _ c.before.before.before.home.given.1 in
+    let p = c.requires.3 in
+    let b = entry-bounds _ _ _ _ _ c.read_tag.ensures _ _ c.in-Entry.is in
     (omega (arith, b, p.few, p.words), omega (arith, p.each), omega arith)
 
-enum-known-home-2 : tie.Need-enum-known-home-2
+enum-known-home-2 : tie.Need-enum_known-home-in-Closing-1
 enum-known-home-2 c = search rules
 
-add-last : tie.Need-overflow-add-last
+add-last : tie.Need-overflow_add-last
 add-last c = search rules
 
-cast-last : tie.Need-overflow-cast-last
+cast-last : tie.Need-overflow_cast-last
 cast-last c = search rules
 
-sub-last : tie.Need-overflow-sub-last
-sub-last c = omega (arith, closing-bounds _ _ _ _ _ c.before.before.before.read-tag.ensures _ _ _ _ c.before.home2.given.1)
+sub-last : tie.Need-overflow_sub-last
+sub-last c = omega (arith, closing-bounds _ _ _ _ _ c.read_tag.ensures _ _ _ _ c.in-Closing.is)
 
-mul-last : tie.Need-overflow-mul-last
-mul-last c = omega (arith, closing-bounds _ _ _ _ _ c.before.before.before.read-tag.ensures _ _ _ _ c.before.home2.given.1)
+mul-last : tie.Need-offset_bounds-last-first
+mul-last c = omega (arith, closing-bounds _ _ _ _ _ c.read_tag.ensures _ _ _ _ c.in-Closing.is)
 
-slice-write-last : tie.Need-slice-write-last
-slice-write-last c = omega (arith, closing-bounds _ _ _ _ _ c.before.before.before.read-tag.ensures _ _ _ _ c.before.home2.given.1, c.before.before.before.before.before.before.before.requires.3.lasts)
+slice-write-last : tie.Need-bounds-last-first
+slice-write-last c = omega (arith, closing-bounds _ _ _ _ _ c.read_tag.ensures _ _ _ _ c.in-Closing.is, c.requires.3.lasts)
 
-chain-requires-2 : tie.Need-chain-requires-2
+chain-requires-2 : tie.Need-chain-requires-in-Closing
 chain-requires-2 c κs =
-    let p = c.before.before.before.before.before.before.before.before.before.requires.3 in
-    let b = closing-bounds _ _ _ _ _ c.before.before.before.before.before.read-tag.ensures _ _ _ _ c.before.before.before.home2.given.1 in
+    let p = c.requires.3 in
+    let b = closing-bounds _ _ _ _ _ c.read_tag.ensures _ _ _ _ c.in-Closing.is in
     (omega (arith, b, p.few, p.words), omega (arith, p.each), omega arith)
 
-returns : tie.Need-returns
-returns c = note-nothing _ _ _ _ _ c.before.before.read-tag.ensures c.enum_told.given.1
+returns : tie.Need-returns-in-Nothing
+returns c = note-nothing _ _ _ _ _ c.read_tag.ensures c.in-Nothing.is
 
-same_length : tie.Need-same-length
+same_length : tie.Need-shape_of-heads-in-Entry
 same_length c = search rules
 
-same-length-2 : tie.Need-same-length-2
+same-length-2 : tie.Need-shape_of-links-in-Entry
 same-length-2 c = search rules
 
-returns-2 : tie.Need-returns-2
-returns-2 c = note-entry _ _ _ _ _ c.before.before.before.before.before.before.before.before.before.before.read-tag.ensures _ _ _ _ c.before.before.before.before.before.before.before.before.home.given.1 c.before.before.before.before.chain.ensures.0 c.before.before.before.before.chain.ensures.1
+returns-2 : tie.Need-returns-in-Entry
+returns-2 c = note-entry _ _ _ _ _ c.read_tag.ensures _ _ _ _ c.in-Entry.is c.chain.ensures.0 c.chain.ensures.1
 
-same-length-3 : tie.Need-same-length-3
+same-length-3 : tie.Need-shape_of-last
 same-length-3 c = search rules
 
-same-length-4 : tie.Need-same-length-4
+same-length-4 : tie.Need-shape_of-heads-in-Closing
 same-length-4 c = search rules
 
-same-length-5 : tie.Need-same-length-5
+same-length-5 : tie.Need-shape_of-links-in-Closing
 same-length-5 c = search rules
 
-returns-3 : tie.Need-returns-3
-returns-3 c = note-closing _ _ _ _ _ c.before.before.before.before.before.before.before.before.before.before.read-tag.ensures _ _ _ _ _ _ _ c.before.before.before.before.before.before.before.before.home2.given.1 refl c.before.before.before.before.chain2.ensures.0 c.before.before.before.before.chain2.ensures.1
+returns-3 : tie.Need-returns-in-Closing
+returns-3 c = note-closing _ _ _ _ _ c.read_tag.ensures _ _ _ _ _ _ _ c.in-Closing.is refl c.chain-in-Closing.ensures.0 c.chain-in-Closing.ensures.1
 
-pub visit-spec : {M : Type 1} → statement M
-visit-spec =
+pub visit_spec : {M : Type 1} → statement M
+visit_spec =
     tie.close
     (tie.spec
     sub-offset

@@ -1,5 +1,4 @@
 -- `log_gather::walk_twice` meets its contract. Assumes nothing.
-use mathlib.Core.Path.{refl}
 use native.Mathlib.Omega.{arith}
 use Rattle.model.specs.Bytes.{zeros}
 use Rattle.log_gather.proofs.ChainLaws.{emptied}
@@ -11,11 +10,11 @@ use Rattle.log_gather.proofs.twice.walk_twice.Tie as tie
 clear-requires : tie.Need-clear-requires
 clear-requires c κs = search rules
 
-walk-with-requires : tie.Need-walk-with-requires
+walk-with-requires : tie.Need-walk_with-found-requires
 unfolding zeros
 walk-with-requires c κs =
-    let p = c.before.before.before.before.before.before.before.before.before.requires in
-    let k = c.before.before.before.clear in
+    let p = c.requires in
+    let k = c.clear in
     (p.0, p.1, p.2, p.6.few, p.3, p.4, omega (arith, p.5, k.auto), k.ensures)
 
 clear-requires-2 : tie.Need-clear-requires-2
@@ -29,29 +28,29 @@ clear-requires-4 c κs = search rules
 
 gather-requires : tie.Need-gather-requires
 gather-requires c κs =
-    let p = c.before.before.before.before.before.before.before.before.before.before.before.before.before.before.before.before.before.before.before.before.before.before.before.before.before.before.before.requires in
-    let w = c.before.before.before.before.before.before.before.before.before.before.before.before.before.before.before.before.before.walk-with in
-    let k = c.before.before.before.before.before.before.before.before.before.before.before.before.before.before.before.before.before.before.before.before.before.clear in (
+    let p = c.requires in
+    let w = c.walk_with-found in
+    let k = c.clear in (
       end-walkable _ _ _ _ _ _ p.0 (omega arith) p.2 p.3 p.4 w.ensures.0,
       p.6.few,
-      emptied _ _ _ _ c.before.before.before.before.before.before.before.before.before.before.before.before.before.clear2.ensures c.before.before.before.before.before.before.before.before.before.clear3.ensures c.before.before.before.before.before.clear4.ensures (omega (arith, p.5, k.auto, w.auto, c.before.before.before.before.before.before.before.before.before.before.before.before.before.clear2.auto)) (omega (arith, p.6.words, c.before.before.before.before.before.before.before.before.before.clear3.auto))
-          (omega (arith, p.6.each, k.auto, w.auto, c.before.before.before.before.before.before.before.before.before.before.before.before.before.clear2.auto, c.before.before.before.before.before.clear4.auto)),
+      emptied _ _ _ _ c.clear-2.ensures c.clear-3.ensures c.clear-4.ensures (omega (arith, p.5, k.auto, w.auto, c.clear-2.auto)) (omega (arith, p.6.words, c.clear-3.auto))
+          (omega (arith, p.6.each, k.auto, w.auto, c.clear-2.auto, c.clear-4.auto)),
     )
 
-same_length : tie.Need-same-length
+same_length : tie.Need-shape_of-last
 same_length c = search rules
 
-same-length-2 : tie.Need-same-length-2
+same-length-2 : tie.Need-shape_of-heads
 same-length-2 c = search rules
 
-same-length-3 : tie.Need-same-length-3
+same-length-3 : tie.Need-shape_of-links
 same-length-3 c = search rules
 
 returns : tie.Need-returns
-returns c = let w = c.before.before.before.before.before.before.before.before.before.before.before.before.before.before.before.before.before.before.before.before.before.before.before.before.walk-with.ensures in (w.0, w.1, c.before.before.before.before.before.before.gather.ensures)
+returns c = let w = c.walk_with-found.ensures in (w.0, w.1, c.gather.ensures)
 
-pub walk-twice-spec : {M : Type 1} → statement M
-walk-twice-spec =
+pub walk_twice_spec : {M : Type 1} → statement M
+walk_twice_spec =
     tie.close
     (tie.spec
     clear-requires

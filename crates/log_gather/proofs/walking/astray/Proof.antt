@@ -8,5 +8,5 @@ returns : tie.Need-returns
 unfolding strayed
 returns c = refl
 
-pub astray-spec : {M : Type 1} → statement M
-astray-spec = tie.close (tie.spec returns)
+pub astray_spec : {M : Type 1} → statement M
+astray_spec = tie.close (tie.spec returns)

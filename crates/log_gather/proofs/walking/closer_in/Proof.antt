@@ -3,11 +3,11 @@ use Rattle.log_gather.proofs.WalkSteps.{closer-counts, closer-closed}
 use Rattle.log_gather.proofs.walking.closer_in.Statement.{statement}
 use Rattle.log_gather.proofs.walking.closer_in.Tie as tie
 
-returns : tie.Need-returns
-returns c = closer-counts _ c.if1.true
+returns : tie.Need-returns-then-cell-lt-CLOSED
+returns c = closer-counts _ c.if-cell-lt-CLOSED.true
 
-returns-2 : tie.Need-returns-2
-returns-2 c = closer-closed _ c.if1.false
+returns-2 : tie.Need-returns-else-cell-lt-CLOSED
+returns-2 c = closer-closed _ c.if-cell-lt-CLOSED.false
 
-pub closer-in-spec : {M : Type 1} → statement M
-closer-in-spec = tie.close (tie.spec returns returns-2)
+pub closer_in_spec : {M : Type 1} → statement M
+closer_in_spec = tie.close (tie.spec returns returns-2)

@@ -5,26 +5,26 @@ use borrow.Author.Rules.{rules}
 use Rattle.log_gather.proofs.walking.drop_one.Statement.{statement}
 use Rattle.log_gather.proofs.walking.drop_one.Tie as tie
 
-mul-closer-in : tie.Need-overflow-mul-closer-in
+mul-closer-in : tie.Need-offset_bounds-cells-k
 mul-closer-in c = search rules
 
-slice-read-closer-in : tie.Need-slice-read-closer-in
+slice-read-closer-in : tie.Need-bounds-cells-k
 slice-read-closer-in c = search rules
 
-closer-in-requires : tie.Need-closer-in-requires
+closer-in-requires : tie.Need-closer_in-requires
 closer-in-requires c κs = search rules
 
-mul-cells : tie.Need-overflow-mul-cells
+mul-cells : tie.Need-offset_bounds-cells-k-2
 mul-cells c = search rules
 
-slice-write-cells : tie.Need-slice-write-cells
+slice-write-cells : tie.Need-bounds-cells-k-2
 slice-write-cells c = search rules
 
-same_length : tie.Need-same-length
+same_length : tie.Need-shape_of-cells
 same_length c = search rules
 
 returns : tie.Need-returns
-returns c before i e d = drop-next before _ _ i _ (omega arith) c.closer-in.ensures e d
+returns c before i e d = drop-next before _ _ i _ (omega arith) c.closer_in.ensures e d
 
-pub drop-one-spec : {M : Type 1} → statement M
-drop-one-spec = tie.close (tie.spec mul-closer-in slice-read-closer-in closer-in-requires mul-cells slice-write-cells same_length returns)
+pub drop_one_spec : {M : Type 1} → statement M
+drop_one_spec = tie.close (tie.spec mul-closer-in slice-read-closer-in closer-in-requires mul-cells slice-write-cells same_length returns)

@@ -1,7 +1,7 @@
 -- `log_gather::pass` meets its contract. The loop's invariant: the pass has taken all positions but `left`, and `at` is the ring slot of group `number`,
 -- the next one. Assumes nothing.
 use mathlib.Core.Path.{◌≡◌, refl, sym, ◌∙◌}
-use Prim.Native.Nat.{ℕ, ◌+◌, ◌-◌, ◌*◌, ◌≤◌, ◌<◌}
+use Prim.Native.Nat.{◌+◌, ◌-◌, ◌*◌, ◌≤◌, ◌<◌}
 use native.Mathlib.Omega.{arith}
 use lib.ListN.{length, length-take, length-drop}
 use Rattle.model.specs.Layout.{entry_at}
@@ -14,7 +14,7 @@ use Rattle.log_gather.proofs.WalkSteps.{Small, small-reached, small-begun, none-
 use Rattle.log_gather.proofs.walking.pass.Statement.{statement}
 use Rattle.log_gather.proofs.walking.pass.Tie as tie
 
-abbrev invariant-loop : tie.invariant-loop
+abbrev invariant-loop : tie.invariant-loop-left
 invariant-loop log cells₀ heads₀ links₀ groups homes start n progress₀ at₀ number₀ left₀ cells heads links progress at number left =
     (
     ◌≡◌ {A = Walk} (record { cells = cells; heads = heads; links = links; progress = progress })
@@ -28,19 +28,19 @@ invariant-loop log cells₀ heads₀ links₀ groups homes start n progress₀ a
     × (length links ≡ length links₀)
     × (progress.failed ≡ 0)
 
-abbrev decreases-loop : tie.decreases-loop
+abbrev decreases-loop : tie.decreases-loop-left
 decreases-loop log cells₀ heads₀ links₀ groups homes start n progress₀ at₀ number₀ left₀ cells heads links progress at number left =
     left
 
-first-slot-requires : tie.Need-first-slot-requires invariant-loop decreases-loop
+first-slot-requires : tie.Need-first_slot-at-requires invariant-loop decreases-loop
 first-slot-requires c κs = omega arith
 
-loop-holds : tie.Need-loop-init invariant-loop decreases-loop
+loop-holds : tie.Need-loop-left-init invariant-loop decreases-loop
 loop-holds c =
-    let p = c.before.before.before.before.before.requires in (
+    let p = c.requires in (
       none-joined _ _ _ _ _ _ _ (omega arith) p.6,
       omega arith,
-      c.first_slot.ensures,
+      c.first_slot-at.ensures,
       λ h. omega arith,
       refl,
       refl,
@@ -49,39 +49,39 @@ loop-holds c =
     )
 
 -- the next group's positions come next, and the numbers of the pass are small
-module _ (c : tie.In-loop invariant-loop decreases-loop) where
-  next : 7 * c.before.before.before.before.before.before.before.args.start + (c.before.before.before.before.before.before.before.args.n - c.before.loop.left) ≡ 7 * c.before.loop.number
-  next = c.before.loop.invariant.3 c.loop-test.true
+module _ (c : tie.In-loop-left invariant-loop decreases-loop) where
+  next : 7 * c.args.start + (c.args.n - c.loop-left.left) ≡ 7 * c.loop-left.number
+  next = c.loop-left.invariant.3 c.loop-left-test.true
 
-  small : Small (7 * c.before.loop.number) c.before.loop.progress
-  small = small-reached _ _ _ _ _ _ _ (sym next) c.before.loop.invariant.0 (small-begun _ _)
+  small : Small (7 * c.loop-left.number) c.loop-left.progress
+  small = small-reached _ _ _ _ _ _ _ (sym next) c.loop-left.invariant.0 (small-begun _ _)
 
-mul-from : tie.Need-overflow-mul-from invariant-loop decreases-loop
+mul-from : tie.Need-overflow_mul-from invariant-loop decreases-loop
 mul-from c = omega arith
 
-add-from : tie.Need-overflow-add-from invariant-loop decreases-loop
+add-from : tie.Need-overflow_add-from invariant-loop decreases-loop
 add-from c = omega arith
 
-add-group : tie.Need-overflow-add-group invariant-loop decreases-loop
+add-group : tie.Need-overflow_add-group invariant-loop decreases-loop
 add-group c = omega arith
 
-sub-group : tie.Need-overflow-sub-group invariant-loop decreases-loop
+sub-group : tie.Need-slice_bounds-group-count invariant-loop decreases-loop
 sub-group c = omega arith
 
-part-group-start : tie.Need-slice-bounds-group-start invariant-loop decreases-loop
+part-group-start : tie.Need-slice_bounds-group-start invariant-loop decreases-loop
 part-group-start c = omega arith
 
-part-group-end : tie.Need-slice-bounds-group-end invariant-loop decreases-loop
+part-group-end : tie.Need-slice_bounds-group-end invariant-loop decreases-loop
 part-group-end c = omega arith
 
-in-group-requires : tie.Need-in-group-requires invariant-loop decreases-loop
+in-group-requires : tie.Need-in_group-m-requires invariant-loop decreases-loop
 in-group-requires c κs = tt
 
-visit-group-requires : tie.Need-visit-group-requires invariant-loop decreases-loop
+visit-group-requires : tie.Need-visit_group-progress-requires invariant-loop decreases-loop
 visit-group-requires c κs =
     let l = c.before.before.before.before.before in
-    let i = c.before.before.before.before.before.before.loop.invariant in
-    let p = c.before.before.before.before.before.before.before.before.before.before.before.before.requires in
+    let i = c.loop-left.invariant in
+    let p = c.requires in
     let e = p.6 in (
       simp (length-take, length-drop) (omega arith),
       omega arith,
@@ -89,7 +89,7 @@ visit-group-requires c κs =
       omega (arith, next l),
       omega (arith, next l),
       i.2.turn,
-      omega (arith, c.before.before.before.in_group.ensures),
+      omega (arith, c.in_group-m.ensures),
       i.7,
       (small l).end,
       (small l).number,
@@ -102,70 +102,70 @@ visit-group-requires c κs =
       },
     )
 
-same_length : tie.Need-same-length invariant-loop decreases-loop
-same_length c = omega (arith, c.before.before.before.before.before.before.before.before.visit-group.auto, c.before.before.before.before.before.before.before.before.before.before.before.before.before.before.before.loop.invariant.4)
+same_length : tie.Need-shape_of-cells-then-progress-ne0 invariant-loop decreases-loop
+same_length c = omega (arith, c.visit_group-progress.auto, c.loop-left.invariant.4)
 
-same-length-2 : tie.Need-same-length-2 invariant-loop decreases-loop
-same-length-2 c = omega (arith, c.before.before.before.before.before.before.before.before.visit-group.auto, c.before.before.before.before.before.before.before.before.before.before.before.before.before.before.before.loop.invariant.5)
+same-length-2 : tie.Need-shape_of-heads-then-progress-ne0 invariant-loop decreases-loop
+same-length-2 c = omega (arith, c.visit_group-progress.auto, c.loop-left.invariant.5)
 
-same-length-3 : tie.Need-same-length-3 invariant-loop decreases-loop
-same-length-3 c = omega (arith, c.before.before.before.before.before.before.before.before.visit-group.auto, c.before.before.before.before.before.before.before.before.before.before.before.before.before.before.before.loop.invariant.6)
+same-length-3 : tie.Need-shape_of-links-then-progress-ne0 invariant-loop decreases-loop
+same-length-3 c = omega (arith, c.visit_group-progress.auto, c.loop-left.invariant.6)
 
-returns : tie.Need-returns invariant-loop decreases-loop
+returns : tie.Need-returns-then-progress-ne0 invariant-loop decreases-loop
 returns c =
-    let l = c.before.before.before.before.before.before.before.before.before.before.before.before.before.before.before.loop in
-    let a = c.before.before.before.before.before.before.before.before.before.before.before.before.before.before.before.before.before.before.before.before.before.args in
-    let m = c.before.before.before.before.before.before.before.before.before.before.before.before.in_group in
+    let l = c.loop-left in
+    let a = c.args in
+    let m = c.in_group-m in
     record {
       taken = a.n - l.left + m.result;
       most = omega (arith, m.ensures, l.invariant.1);
       is =
           log-turn _ _ _ _ _ _ _ _ _ _ _ _ _ _ _ (omega (arith, m.ensures)) (next c.before.before.before.before.before.before.before.before.before.before.before.before.before.before) l.invariant.2.same refl refl l.invariant.0
-          c.before.before.before.before.before.before.before.before.visit-group.ensures;
-      all = λ z. absurd (c.if1.true z);
+          c.visit_group-progress.ensures;
+      all = λ z. absurd (c.if-progress-ne0.true z);
     }
 
-next-slot-requires : tie.Need-next-slot-requires invariant-loop decreases-loop
+next-slot-requires : tie.Need-next_slot-at-requires invariant-loop decreases-loop
 next-slot-requires c κs = omega arith
 
-add-number : tie.Need-overflow-add-number invariant-loop decreases-loop
+add-number : tie.Need-overflow_add-number invariant-loop decreases-loop
 add-number c = omega (arith, next c.before.before.before.before.before.before.before.before.before.before.before.before.before.before.before)
 
-sub-left : tie.Need-overflow-sub-left invariant-loop decreases-loop
-sub-left c = omega (arith, c.before.before.before.before.before.before.before.before.before.before.before.before.before.in_group.ensures)
+sub-left : tie.Need-overflow_sub-left invariant-loop decreases-loop
+sub-left c = omega (arith, c.in_group-m.ensures)
 
-loop-less : tie.Need-loop-smaller invariant-loop decreases-loop
-loop-less c = omega (arith, c.before.before.before.before.before.before.before.before.before.before.before.before.before.in_group.ensures, c.before.before.before.before.before.before.before.before.before.before.before.before.before.before.before.loop-test.true)
+loop-less : tie.Need-loop-left-smaller invariant-loop decreases-loop
+loop-less c = omega (arith, c.in_group-m.ensures, c.loop-left-test.true)
 
-loop-again : tie.Need-loop-preserved invariant-loop decreases-loop
+loop-again : tie.Need-loop-left-preserved invariant-loop decreases-loop
 loop-again c =
-    let l = c.before.before.before.before.before.before.before.before.before.before.before.before.before.before.before.before.loop in
-    let m = c.before.before.before.before.before.before.before.before.before.before.before.before.before.in_group in (
+    let l = c.loop-left in
+    let m = c.in_group-m in (
       log-turn _ _ _ _ _ _ _ _ _ _ _ _ _ _ _ (omega (arith, m.ensures)) (next c.before.before.before.before.before.before.before.before.before.before.before.before.before.before.before) l.invariant.2.same refl (omega (arith, m.ensures, l.invariant.1)) l.invariant.0
-          c.before.before.before.before.before.before.before.before.before.visit-group.ensures,
+          c.visit_group-progress.ensures,
       omega (arith, l.invariant.1),
-      c.next-slot.ensures.1 _ l.invariant.2,
+      c.next_slot-at.ensures.1 _ l.invariant.2,
       λ h. omega (arith, next c.before.before.before.before.before.before.before.before.before.before.before.before.before.before.before, m.ensures, l.invariant.1),
-      omega (arith, c.before.before.before.before.before.before.before.before.before.visit-group.auto, l.invariant.4),
-      omega (arith, c.before.before.before.before.before.before.before.before.before.visit-group.auto, l.invariant.5),
-      omega (arith, c.before.before.before.before.before.before.before.before.before.visit-group.auto, l.invariant.6),
-      c.before.if1.false,
+      omega (arith, c.visit_group-progress.auto, l.invariant.4),
+      omega (arith, c.visit_group-progress.auto, l.invariant.5),
+      omega (arith, c.visit_group-progress.auto, l.invariant.6),
+      c.if-progress-ne0.false,
     )
 
-same-length-4 : tie.Need-same-length-4 invariant-loop decreases-loop
-same-length-4 c = omega (arith, c.before.loop.invariant.4)
+same-length-4 : tie.Need-shape_of-cells invariant-loop decreases-loop
+same-length-4 c = omega (arith, c.loop-left.invariant.4)
 
-same-length-5 : tie.Need-same-length-5 invariant-loop decreases-loop
-same-length-5 c = omega (arith, c.before.loop.invariant.5)
+same-length-5 : tie.Need-shape_of-heads invariant-loop decreases-loop
+same-length-5 c = omega (arith, c.loop-left.invariant.5)
 
-same-length-6 : tie.Need-same-length-6 invariant-loop decreases-loop
-same-length-6 c = omega (arith, c.before.loop.invariant.6)
+same-length-6 : tie.Need-shape_of-links invariant-loop decreases-loop
+same-length-6 c = omega (arith, c.loop-left.invariant.6)
 
-returns-2 : tie.Need-returns-2 invariant-loop decreases-loop
+returns-2 : tie.Need-returns invariant-loop decreases-loop
 returns-2 c =
-    let l = c.before.loop in
-    let a = c.before.before.before.before.before.before.before.args in
-    record { taken = a.n - l.left; most = omega arith; is = l.invariant.0; all = λ z. omega (arith, l.invariant.1, c.loop-test.false) }
+    let l = c.loop-left in
+    let a = c.args in
+    record { taken = a.n - l.left; most = omega arith; is = l.invariant.0; all = λ z. omega (arith, l.invariant.1, c.loop-left-test.false) }
 
 pub pass_spec : {M : Type 1} → statement M
 pass_spec =

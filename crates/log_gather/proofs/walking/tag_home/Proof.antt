@@ -6,15 +6,15 @@ use Rattle.model.specs.Tag.{field}
 use Rattle.log_gather.proofs.walking.tag_home.Statement.{statement}
 use Rattle.log_gather.proofs.walking.tag_home.Tie as tie
 
-mul-result : tie.Need-overflow-mul-result
+mul-result : tie.Need-overflow_mul-result
 mul-result c = omega (arith, and_mask (c.args.word / 2 ^ 53) 4)
 
-add-result : tie.Need-overflow-add-result
+add-result : tie.Need-overflow_add-result
 add-result c = omega (arith, and_mask (c.args.word / 2 ^ 2) 12, and_mask (c.args.word / 2 ^ 53) 4)
 
 returns : tie.Need-returns
 unfolding field
 returns c = omega (arith, and_mask (c.args.word / 2 ^ 2) 12, and_mask (c.args.word / 2 ^ 53) 4)
 
-pub tag-home-spec : {M : Type 1} → statement M
-tag-home-spec = tie.close (tie.spec mul-result add-result returns)
+pub tag_home_spec : {M : Type 1} → statement M
+tag_home_spec = tie.close (tie.spec mul-result add-result returns)

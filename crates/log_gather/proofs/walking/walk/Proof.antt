@@ -5,47 +5,47 @@ use borrow.Author.Rules.{rules}
 use Rattle.log_gather.proofs.walking.walk.Statement.{statement}
 use Rattle.log_gather.proofs.walking.walk.Tie as tie
 
-pass-requires : tie.Need-pass-requires
-pass-requires c κs = let p = c.before.before.before.before.before.before.before.requires in (p.0, omega arith, p.2, p.3, p.4, p.5, p.6)
+pass-requires : tie.Need-pass-progress-requires
+pass-requires c κs = let p = c.requires in (p.0, omega arith, p.2, p.3, p.4, p.5, p.6)
 
-drop-counts-requires : tie.Need-drop-counts-requires
+drop-counts-requires : tie.Need-drop_counts-requires
 drop-counts-requires c κs =
-    let p = c.before.before.before.before.before.before.before.before.before.before.before.before.before.before.before.before.before.requires in
-    let s = c.before.before.before.before.before.before.before.before.before.pass in (
+    let p = c.requires in
+    let s = c.pass-progress in (
       omega (arith, s.auto, p.5, p.6.long),
-      cells-beyond _ _ _ _ _ _ _ p.3 p.2 p.5 p.6.long s.ensures c.before.if1.true,
+      cells-beyond _ _ _ _ _ _ _ p.3 p.2 p.5 p.6.long s.ensures c.if-progress-ne2.true,
     )
 
-same_length : tie.Need-same-length
+same_length : tie.Need-shape_of-last-then-progress-ne2
 same_length c = search rules
 
-same-length-2 : tie.Need-same-length-2
+same-length-2 : tie.Need-shape_of-heads-then-progress-ne2
 same-length-2 c = search rules
 
-same-length-3 : tie.Need-same-length-3
+same-length-3 : tie.Need-shape_of-links-then-progress-ne2
 same-length-3 c = search rules
 
-returns : tie.Need-returns
+returns : tie.Need-returns-then-progress-ne2
 returns c =
-    let p = c.before.before.before.before.before.before.before.before.before.before.before.before.before.before.before.before.before.before.before.before.requires in
-    let s = c.before.before.before.before.before.before.before.before.before.before.before.before.pass in
-    λ h. walk-found _ _ _ _ _ _ _ p.3 p.2 p.5 p.6.long s.ensures h _ c.before.before.drop-counts.ensures
-    (omega (arith, c.before.before.drop-counts.auto, s.auto))
+    let p = c.requires in
+    let s = c.pass-progress in
+    λ h. walk-found _ _ _ _ _ _ _ p.3 p.2 p.5 p.6.long s.ensures h _ c.drop_counts.ensures
+    (omega (arith, c.drop_counts.auto, s.auto))
 
-same-length-4 : tie.Need-same-length-4
+same-length-4 : tie.Need-shape_of-last-else-progress-ne2
 same-length-4 c = search rules
 
-same-length-5 : tie.Need-same-length-5
+same-length-5 : tie.Need-shape_of-heads-else-progress-ne2
 same-length-5 c = search rules
 
-same-length-6 : tie.Need-same-length-6
+same-length-6 : tie.Need-shape_of-links-else-progress-ne2
 same-length-6 c = search rules
 
-returns-2 : tie.Need-returns-2
-returns-2 c = λ h. absurd (h c.if1.false)
+returns-2 : tie.Need-returns-else-progress-ne2
+returns-2 c = λ h. absurd (h c.if-progress-ne2.false)
 
-pub walk-spec : {M : Type 1} → statement M
-walk-spec =
+pub walk_spec : {M : Type 1} → statement M
+walk_spec =
     tie.close
     (tie.spec
     pass-requires
