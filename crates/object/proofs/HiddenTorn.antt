@@ -10,7 +10,6 @@ use Rattle.model.specs.Rights.{for_home, shown_at, list_by, store_list, read_lis
 use Rattle.model.specs.Questions.{store_allowed, read_allowed}
 use Rattle.model.specs.examples.Trials.{fill}
 use Rattle.model.specs.History.{Call, call, World, after_format, empty_store, is_opening, step, after, AllAllowed, calls}
-use Rattle.model.proofs.examples.Computing.{all-definitions}
 use Rattle.abstract_store.specs.Store.{Store, new_store, group_of_first, numbered, with_round, list_of, last_after, fenced_after, set_for, promises_after, store_must_log, reply_of, after_service, after_reply, follow}
 use Rattle.abstract_store.specs.Store as abstract-store
 use Rattle.theorems.specs.Isolation.{Each, both, more, StoreAlike, CallAlike, equal, stored, followed, ToldSameThroughout}

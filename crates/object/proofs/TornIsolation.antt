@@ -2,7 +2,6 @@
 -- store.
 use Prim.Native.Nat.{ℕ}
 use mathlib.Core.Path.{sym, ◌∙◌, subst}
-use mathlib.Core.List.{List}
 use Rattle.model.specs.Book.{Book}
 use Rattle.model.specs.History.{Event, call, World, Formatting, after_format, step, Allowed}
 use Rattle.abstract_store.specs.Store.{Store, new_store, follow}
