@@ -1,6 +1,6 @@
 -- Question 2 test by test: one test that fails refuses the strip, and all that hold make it one in order. Assumes nothing.
-use mathlib.Core.Path.{◌≡◌, refl, sym, ap, ◌∙◌}
-use mathlib.Core.Bool.{Bool, true, false, not, false≢true, ◌&&◌, and-false, and-true, or-true}
+use mathlib.Core.Path.{◌≡◌, refl, sym, ◌∙◌}
+use mathlib.Core.Bool.{Bool, true, false, not, false≢true, ◌&&◌, and-false}
 use mathlib.Core.Logic.{◌≢◌}
 use mathlib.Core.List.{List}
 use Prim.Native.Nat.{ℕ, zero, suc, ◌+◌, ◌-◌, ◌*◌, ◌^◌, ◌%◌, ◌≤◌, ◌<◌}
@@ -11,8 +11,7 @@ use borrow.Author.Tests.{lt-ltb, eq-eqb, ne_eqb, eqb-true, eqb-false, le-leb, lt
 use Rattle.model.specs.declared.State.{State}
 use Rattle.model.specs.declared.Writer.{Writer}
 use lib.Dec.{eqb, leb, ltb}
-use Rattle.model.specs.State.{state_of, writer_of, is_open_now, promise_of, promised, places, next_position, numbers_in_order, writer_in_order, promise_in_order, writer_at_in_order, writers_in_order, is_in_order}
-use Rattle.model.specs.Questions.{ask}
+use Rattle.model.specs.State.{state_of, writer_of, promise_of, promised, places, next_position, numbers_in_order, writer_in_order, promise_in_order, writer_at_in_order, writers_in_order, is_in_order}
 use Rattle.model_laws.proofs.state.OrderLaws.{tests, WriterInOrder, writer-order, order-writer}
 use Rattle.base_state.specs.Order.{GroupsInOrder, Agrees, Live, BoundsInOrder, round_in_order}
 
