@@ -1,18 +1,15 @@
 -- What a change of one writer's record leaves as it was (specs/Frame), and that it may come before or after a change of the strip's numbers.
 -- Assumes nothing.
-use mathlib.Core.Path.{◌≡◌, refl, sym, ap, ◌∙◌}
+use mathlib.Core.Path.{◌≡◌, refl, ap, ◌∙◌}
 use mathlib.Core.Logic.{◌⊎◌, inl, inr, ⊎_map, ◌≢◌}
-use mathlib.Core.Bool.{Bool, true, false}
 use mathlib.Core.List.{List, [], ◌∷◌}
-use Prim.Native.Nat.{ℕ, zero, suc, ◌+◌, ◌*◌, ◌%◌, ◌<◌, ◌≤◌}
+use Prim.Native.Nat.{ℕ, zero, suc, ◌+◌, ◌*◌, ◌<◌, ◌≤◌}
 use native.Mathlib.Decide.{dec_lt}
 use native.Mathlib.Omega.{arith}
-use lib.Dec.{eqb}
-use lib.ListN.{length, get_or}
+use lib.ListN.{length}
 use Rattle.model.specs.Bytes.{puts, bytes, put_number}
-use Rattle.model.specs.declared.State.{State}
 use Rattle.model.specs.declared.Writer.{Writer}
-use Rattle.model.specs.State.{state_of, set_next, set_filled, mode_offset, writer_offset, less_one, writer_of, set_writer, held_of}
+use Rattle.model.specs.State.{set_next, set_filled, mode_offset, writer_offset, less_one, set_writer}
 use Rattle.model_laws.proofs.bytes.ByteLaws.{puts-nil, length-bytes}
 use Rattle.model_laws.proofs.state.StateLaws.{byte-agree}
 use Rattle.model_laws.proofs.state.WriterLaws.{length-set_writer, part-set_writer, state-set_writer, writer-set_writer-other, held-set_writer}

@@ -1,5 +1,2 @@
 pub mod HeldLaws
 pub mod FrameLaws
-pub mod Place
-pub mod Thin
-pub mod Lent

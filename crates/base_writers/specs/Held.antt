@@ -1,5 +1,5 @@
 -- What a store does to a writer's record ("the writer holds one block. The same home again replaces it; another home first logs the held one").
-use Rattle.std.specs.Prelude.{ℕ, ◌+◌, Bool, true, false, cond, eqb}
+use Rattle.std.specs.Prelude.{ℕ, ◌+◌, cond, eqb}
 use Rattle.model.specs.declared.Writer.{Writer}
 use Rattle.model.specs.State.{holding, logging, holds, first_for, count_for}
 

@@ -1,4 +1,6 @@
 // The record of one writer changed at its place in the state strip; the other seven records and all other bytes stay as they were.
+#![tactic(auto)]
+
 mod places;
 mod records;
 

@@ -1,4 +1,4 @@
-// The same changes at the record's place, behind a reference. Each is proved by a walk of its code by hand; a caller of the last three needs none.
+// The same changes at the record's place, behind a reference.
 ghost use Rattle.std.specs.Prelude.{◌≡◌, ◌+◌, ◌^◌, ◌<◌};
 ghost use Rattle.model.specs.State.{idle, begun, count_for};
 ghost use Rattle.base_writers.specs.Held.{held_for};
