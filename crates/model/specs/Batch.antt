@@ -1,7 +1,7 @@
 -- The records of a batch ("train") and their bytes.
 -- "Every record begins with a two-byte mark: 47 57 hex (GW, a group write: two-byte ring place, 512 bytes), 48 57 (HW, a home write: two-byte
 -- home, 64 bytes), 4B 57 (KW, a head write: 64 bytes), 46 4E (FN, a fence: nothing more). They take 516, 68, 66 and 2 bytes."
-use Rattle.std.specs.Prelude.{ℕ, zero, suc, ◌+◌, Bool, true, false, cond, ◌&&◌, List, [], ◌∷◌, ◌++◌, leb, length, drop}
+use Rattle.std.specs.Prelude.{ℕ, zero, suc, Bool, true, false, cond, List, [], ◌∷◌, ◌++◌, leb, length, drop}
 use Rattle.model.specs.Bytes.{part, bytes, number, same}
 
 pub data Record : Type 0 where

@@ -1,7 +1,7 @@
 -- The book of commits: the store's abstract model. "The book is fed each call's arguments and answer and which writes landed at each cut, nothing
 -- from strip or copies. It has a list of commits, a row of entries and, per writer, idle or open, with logged entries and at most one held home
 -- and block. It starts empty, all idle. Refused calls, open, settle, trim, read and confirm change nothing."
-use Rattle.std.specs.Prelude.{ℕ, zero, suc, ◌+◌, ◌*◌, Bool, true, false, cond, ◌&&◌, ◌||◌, List, [], ◌∷◌, ◌++◌, eqb, leb, length}
+use Rattle.std.specs.Prelude.{ℕ, zero, suc, ◌+◌, ◌*◌, Bool, true, false, cond, ◌&&◌, ◌||◌, List, [], ◌∷◌, ◌++◌, eqb, leb}
 use Rattle.std.proofs.Math.Option.{Option, none, some}
 use Rattle.model.specs.Bytes.{zeros}
 use Rattle.model.specs.Layout.{put_home, home_at}

@@ -1,7 +1,7 @@
 -- The calls, each as one definition of its answer and of everything it was lent.
-use Rattle.std.specs.Prelude.{ℕ, zero, suc, ◌+◌, Bool, true, false, List, [], eqb, length}
+use Rattle.std.specs.Prelude.{ℕ, zero, suc, List, length}
 use Rattle.model.specs.Bytes.{puts}
-use Rattle.model.specs.Batch.{Record, batch_bytes}
+use Rattle.model.specs.Batch.{batch_bytes}
 use Rattle.model.specs.Effects.{Given, Effect, format_effect, open_effect, open_start, begin_effect, reserve_effect, abort_effect, store_effect, commit_effect, flush_effect, confirm_effect, settle_effect, begin_round_effect, step_round_effect, trim_start, trim_effect, read_effect}
 use Rattle.model.specs.Questions.{format_answer, open_answer, begin_answer, reserve_answer, abort_answer, store_answer, commit_answer, flush_answer, confirm_answer, settle_answer, begin_round_answer, step_round_answer, trim_answer, read_answer}
 

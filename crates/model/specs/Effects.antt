@@ -1,12 +1,12 @@
 -- What each call does when it is done. Question by question refusals are in Questions, the calls as a whole in Calls.
-use Rattle.std.specs.Prelude.{ℕ, zero, suc, ◌+◌, ◌-◌, ◌*◌, ◌/◌, ◌%◌, Bool, true, false, cond, not, ◌&&◌, ◌||◌, List, [], ◌∷◌, ◌++◌, eqb, leb, ltb, length, get_or, take}
+use Rattle.std.specs.Prelude.{ℕ, zero, suc, ◌+◌, ◌-◌, ◌*◌, ◌/◌, ◌%◌, Bool, true, false, cond, not, ◌&&◌, List, [], ◌∷◌, ◌++◌, eqb, leb, ltb, length, get_or, take}
 use Rattle.std.proofs.Math.Option.{Option, none, some}
-use Rattle.model.specs.Bytes.{puts, zeros, part}
-use Rattle.model.specs.Tag.{entry_word, closing_word, home_of, present}
-use Rattle.model.specs.Layout.{group_count, home_count, header, header_start, group_at, turn_of, unused_group, empty_log, put_blank, put_entry, entry_at, block_at, home_at, put_home}
+use Rattle.model.specs.Bytes.{puts, zeros}
+use Rattle.model.specs.Tag.{entry_word, closing_word, home_of}
+use Rattle.model.specs.Layout.{header, header_start, group_at, turn_of, unused_group, empty_log, put_blank, put_entry, entry_at, block_at, home_at, put_home}
 use Rattle.model.specs.Commit.{Span, committed, transactions, replay, members, newest_in, newest, found, entries}
 use Rattle.model.specs.Batch.{Record, GW, HW, KW, FN}
-use Rattle.model.specs.State.{State, state_of, set_start, set_next, set_filled, set_settled, set_fenced, set_durable, set_last, next_position, Writer, writer_of, set_writer, held_of, set_held, set_promise, promise_left, idle, begun, holding, logging, is_open_now, holds, has_logged, holds_home, first_for, count_for, fresh_state, set_round, set_cursor, fixed_in}
+use Rattle.model.specs.State.{State, state_of, set_start, set_next, set_filled, set_settled, set_fenced, set_durable, set_last, next_position, Writer, writer_of, set_writer, held_of, set_held, set_promise, promise_left, idle, begun, holding, logging, holds, has_logged, holds_home, first_for, count_for, fresh_state, set_round, set_cursor, fixed_in}
 use Rattle.model.specs.Newest.{kept_for, nothing_kept, keep_entries, forget, carry_listed}
 use Rattle.model.specs.Rights.{open_sign, keep_list}
 use Rattle.model.specs.declared.Tag.{Tag}

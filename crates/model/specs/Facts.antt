@@ -8,7 +8,7 @@ use Rattle.model.specs.Calls.{Outcome, format_call, open_call, begin_call, reser
 use Rattle.model.specs.Crash.{Memory, persist}
 use Rattle.model.specs.Layout.{group_count}
 use Rattle.model.specs.DemandTwo.{group_writes}
-use Rattle.model.specs.History.{World, Event, Formatting, format_records, unopened, loaded, after_format, empty_store, after, Always}
+use Rattle.model.specs.History.{World, Formatting, format_records, unopened, loaded, after_format, empty_store, after, Always}
 
 -- "Between two fences no block is written twice."
 

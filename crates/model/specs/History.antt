@@ -1,5 +1,5 @@
 -- Histories: lists of calls and crashes from a finished format on, with the premises of demand 3.
-use Rattle.std.specs.Prelude.{ℕ, zero, suc, ◌+◌, ◌*◌, ◌≤◌, ◌≡◌, Bool, true, false, cond, not, List, [], ◌∷◌, ◌++◌, eqb, length, take, drop}
+use Rattle.std.specs.Prelude.{ℕ, zero, suc, ◌+◌, ◌*◌, ◌≤◌, ◌≡◌, Bool, true, false, cond, not, List, [], ◌∷◌, ◌++◌, length, take, drop}
 use Rattle.model.specs.Bytes.{zeros}
 use Rattle.model.specs.Layout.{group_count, empty_log}
 use Rattle.model.specs.Batch.{Record, read_batch}

@@ -2,7 +2,7 @@
 -- "The data area is D home blocks of 64 bytes, D from 1 to 4,096. Homes count from 0. The log area is a 64-byte head and then G groups of 512
 -- bytes, G from 4 to 1,024. G and D follow from the lent lengths 64 + 512 × G and 64 × D." "D goes up to 65,535, the most the head's field can
 -- say."
-use Rattle.std.specs.Prelude.{ℕ, zero, suc, ◌+◌, ◌-◌, ◌*◌, ◌/◌, ◌%◌, ◌^◌, Bool, true, false, cond, ◌&&◌, List, [], ◌∷◌, ◌++◌, eqb, leb, ltb}
+use Rattle.std.specs.Prelude.{ℕ, zero, suc, ◌+◌, ◌-◌, ◌*◌, ◌/◌, ◌%◌, ◌^◌, Bool, cond, ◌&&◌, List, [], ◌∷◌, ◌++◌, eqb, leb, ltb}
 use Rattle.model.specs.Bytes.{part, puts, zeros, bytes, number, put_number, same}
 use Rattle.model.specs.Tag.{with_displaced, field, displaced, read_tag}
 use Rattle.model.specs.declared.Tag.{Tag}

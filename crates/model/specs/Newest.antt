@@ -1,5 +1,5 @@
 -- The newest positions: a lent strip with, for each home, the position of its newest committed entry, in eight bytes. "none is all ones."
-use Rattle.std.specs.Prelude.{ℕ, zero, suc, ◌+◌, ◌-◌, ◌*◌, ◌^◌, Bool, true, false, cond, List, [], ◌∷◌, leb, ltb, replicate}
+use Rattle.std.specs.Prelude.{ℕ, zero, suc, ◌+◌, ◌-◌, ◌*◌, ◌^◌, cond, List, leb, ltb, replicate}
 use Rattle.std.proofs.Math.Option.{Option, none, some}
 use Rattle.model.specs.Bytes.{part, number, put_number}
 use Rattle.model.specs.Tag.{home_of}

@@ -1,6 +1,6 @@
 -- The newest positions are true at every moment after a done opening. "Under 3's premises that keeps it true, and a read, which uses it, gives what it
 -- gave."
-use Rattle.std.specs.Prelude.{ℕ, ◌+◌, ◌*◌, ◌<◌, ◌≤◌, ◌≡◌, true, false, List, [], ◌∷◌, length}
+use Rattle.std.specs.Prelude.{ℕ, ◌+◌, ◌*◌, ◌<◌, ◌≤◌, ◌≡◌, true, List, [], ◌∷◌, length}
 use Rattle.model.specs.Bytes.{part}
 use Rattle.model.specs.Layout.{home_at}
 use Rattle.model.specs.State.{list_home, listed_of, list_sign}
@@ -8,7 +8,7 @@ use Rattle.model.specs.Newest.{kept_as, kept_for}
 use Rattle.model.specs.Effects.{newest_committed, own_else, shown, visible}
 use Rattle.model.specs.Rights.{Faithful}
 use Rattle.model.specs.Book.{homes_after}
-use Rattle.model.specs.History.{commit, World, Event, lent, step, Always}
+use Rattle.model.specs.History.{World, Event, lent, step, Always}
 
 pub record NewestTrue (w : World) : Type 0 where
   pub size : length w.newest ≡ 8 * w.homes

@@ -1,9 +1,9 @@
 -- The ten questions of the paper, those of later requests, and which of them each call puts.
 -- "Format puts 1 and 10; open 1, 3, 9 and 10; every other call 1 and 2, then 4 if it names a writer, 5 if a home, and what names it or its
 -- train. 0 is done."
-use Rattle.std.specs.Prelude.{ℕ, zero, suc, ◌+◌, ◌-◌, ◌*◌, Bool, true, false, cond, not, ◌&&◌, ◌||◌, List, [], eqb, leb, ltb, length}
+use Rattle.std.specs.Prelude.{ℕ, ◌+◌, ◌-◌, ◌*◌, Bool, true, false, not, ◌&&◌, ◌||◌, List, eqb, leb, ltb, length}
 use Rattle.model.specs.Layout.{max_start, log_length_right, data_length_right, header_right, header_start}
-use Rattle.model.specs.State.{State, state_of, state_bytes, under_way, is_in_order, promise_of, promised, places, free_places, list_sign, Writer, writer_of, is_open_now, holds, holds_home}
+use Rattle.model.specs.State.{State, state_of, state_bytes, under_way, is_in_order, promise_of, promised, places, free_places, list_sign, Writer, writer_of, is_open_now, holds}
 use Rattle.model.specs.Effects.{Given, groups, homes}
 use Rattle.model.specs.Rights.{right_to_store, right_to_read, store_list, read_list}
 

@@ -1,6 +1,6 @@
 -- "A refused call changes none and gives one of ten numbers", field by field, for everything that a call can be lent. Later requests' numbers "join
 -- demand 1's ten": 17 to 21.
-use Rattle.std.specs.Prelude.{ℕ, Bool, true, ◌&&◌, ◌||◌, eqb, leb, ◌≡◌, ◌⊎◌, List, [], ◌∷◌}
+use Rattle.std.specs.Prelude.{ℕ, Bool, true, ◌&&◌, ◌||◌, leb, ◌≡◌, ◌⊎◌, List, [], ◌∷◌}
 use Rattle.model.specs.Effects.{Given}
 use Rattle.model.specs.Calls.{Outcome, format_call, open_call, begin_call, reserve_call, abort_call, store_call, commit_call, flush_call, confirm_call, settle_call, begin_round_call, step_round_call, trim_call, read_call}
 

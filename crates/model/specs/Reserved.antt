@@ -1,6 +1,6 @@
 -- Places promised beforehand: the request's guarantee, and its two answers, as statements over all histories.
-use Rattle.std.specs.Prelude.{ℕ, zero, suc, ◌+◌, ◌-◌, ◌*◌, ◌≤◌, ◌<◌, ◌≡◌, ◌⊎◌, ◌↔◌, ◌≢◌, Bool, true, cond, List, [], ◌∷◌, eqb, length}
-use Rattle.model.specs.State.{State, state_of, promise_of, promised, places, free_places}
+use Rattle.std.specs.Prelude.{ℕ, zero, suc, ◌+◌, ◌-◌, ◌*◌, ◌≤◌, ◌<◌, ◌≡◌, ◌⊎◌, ◌↔◌, ◌≢◌, true, cond, List, [], ◌∷◌, eqb, length}
+use Rattle.model.specs.State.{state_of, promise_of, promised, places, free_places}
 use Rattle.model.specs.Book.{Task, idle, opened}
 use Rattle.model.specs.History.{Change, begins, reserves, aborts, stores, commits, flushes, Call, opening, confirm, change, service, begin, reserve, store, commit, flush, Event, call, crash, World, ends, step, Always}
 use Rattle.model.specs.examples.Trials.{room, fill, goes, fresh}

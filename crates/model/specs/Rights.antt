@@ -3,10 +3,10 @@
 -- ranges it may store to, then four it may read, each first home and number of homes, 16 bits; all zeros, or D too small for it, is no list. While no
 -- list is committed every other home is open to all."
 use Rattle.std.specs.Prelude.{ℕ, zero, suc, ◌+◌, ◌*◌, ◌≡◌, Bool, true, false, cond, not, ◌&&◌, ◌||◌, List, [], ◌++◌, eqb, leb, ltb}
-use Rattle.std.proofs.Math.Option.{Option, none, some}
+use Rattle.std.proofs.Math.Option.{none, some}
 use Rattle.model.specs.Bytes.{part, zeros, number, same}
 use Rattle.model.specs.Layout.{home_at}
-use Rattle.model.specs.State.{list_home, listed_of, list_sign, set_list_sign}
+use Rattle.model.specs.State.{list_home, listed_of, set_list_sign}
 use Rattle.model.specs.Newest.{kept_for, carry_listed}
 use Rattle.model.specs.Given.{Given, homes, is_there, block_or}
 

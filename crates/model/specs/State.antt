@@ -1,6 +1,6 @@
 -- The state strip of 1,024 bytes: numbers of eight bytes at fixed offsets, the writers' promises of two and their modes of one. Bytes that no field has are spare: no call but open changes them, and
 -- none reads them. docs/FORMAT.md has the layout as a table.
-use Rattle.std.specs.Prelude.{ℕ, zero, suc, ◌+◌, ◌-◌, ◌*◌, ◌%◌, ◌^◌, Bool, true, false, cond, ◌&&◌, ◌||◌, List, [], ◌∷◌, eqb, leb, ltb, replicate}
+use Rattle.std.specs.Prelude.{ℕ, zero, suc, ◌+◌, ◌-◌, ◌*◌, ◌%◌, ◌^◌, Bool, true, cond, ◌&&◌, ◌||◌, List, eqb, leb, ltb, replicate}
 use Rattle.model.specs.Bytes.{part, puts, zeros, number, put_number}
 use Rattle.model.specs.Layout.{max_start}
 pub use Rattle.model.specs.declared.State.{State}

@@ -2,7 +2,7 @@
 -- distance back to the previous closing entry (0: none since the start), bits 40–52 number of entries, 53–63 zero. Bits 27–52 are zero unless
 -- closing." "Tag bits 53 to 56 carry the home's bits 12 to 15, so they leave the zero bits of document 01, and a tag reads a 16-bit home." "the bit it
 -- displaces goes into tag bit 57, which is no longer a zero bit in a used tag."
-use Rattle.std.specs.Prelude.{ℕ, zero, suc, ◌+◌, ◌-◌, ◌*◌, ◌/◌, ◌%◌, ◌^◌, Bool, true, false, cond, eqb, leb}
+use Rattle.std.specs.Prelude.{ℕ, ◌+◌, ◌-◌, ◌*◌, ◌/◌, ◌%◌, ◌^◌, Bool, true, false, cond, eqb, leb}
 use Rattle.model.specs.declared.Tag.{Tag}
 use Rattle.model.specs.declared.Tag.TheVariants.{Nothing, Entry, Closing}
 

@@ -1,5 +1,6 @@
 // The definitions of the store stand in specs/; what they come to, computed, in proofs/; their laws in the crate `model_laws`. Here are the
 // types that code and definitions share.
+#![tactic(auto)]
 
 // What a tag says where it stands ("a tag reads as nothing, an entry, or a closing entry").
 // Entry(home, first) and Closing(home, first, link, count): `first` is the position of the transaction's first entry, `link`

@@ -1,7 +1,7 @@
 -- The history of crates/model/specs/examples/Witnesses goes as listed, by computation.
 use mathlib.Core.Path.{◌≡◌, refl}
-use mathlib.Core.Bool.{Bool, true}
-use mathlib.Core.List.{List, [], ◌∷◌}
+use mathlib.Core.Bool.{true}
+use mathlib.Core.List.{[], ◌∷◌}
 use Rattle.model.specs.Bytes.{same}
 use Rattle.model.specs.examples.Witnesses.{goes_as_listed, opens_larger}
 use Rattle.model.proofs.examples.Computing.{all-definitions}

@@ -1,6 +1,6 @@
 -- What the lists of crates/model/specs/examples/Lists allow, by computation.
 use mathlib.Core.Path.{◌≡◌, refl}
-use mathlib.Core.Bool.{true, ◌&&◌}
+use mathlib.Core.Bool.{true}
 use Rattle.model.specs.examples.Trials.{all_match}
 use Rattle.model.specs.examples.Lists.{four_from, writers_up_to, stores_in, reads_in, both_in, all_ranges, last, fourth, laid_down, by_fourth, reopened, brought, taken_back, rows}
 use Rattle.model.proofs.examples.Computing.{all-definitions}

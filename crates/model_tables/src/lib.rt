@@ -1,1 +1,3 @@
+#![tactic(auto)]
+
 // The longer tables of the crate `model`, computed: theorems only.

@@ -15,7 +15,7 @@ use Rattle.model.specs.Crash.{blocks, pieces, write, write_each, write_if, write
 use Rattle.model.specs.History.{unopened, empty_store, lent, loaded, ends, feed, is_opening, is_confirm, after_done, after_refused, after_call, row_fates, after_crash, step, after, change_ends, service_ends, feed_change}
 use Rattle.model.specs.Book.{empty as book-empty, set_task as book-set_task, with_task as book-with_task, begin as book-begin, abort as book-abort, entry_of as book-entry_of, submit as book-submit, grown as book-grown, filled_up as book-filled_up, hold as book-hold, store_task as book-store_task, store as book-store, add_commit as book-add_commit, commit_task as book-commit_task, commit as book-commit, flush as book-flush, owed_by as book-owed_by, all_owed as book-all_owed, with_commits as book-with_commits, fate_at as book-fate_at, survives as book-survives, all_survive as book-all_survive, run as book-run, persisted_entries as book-settled_entries, ended as book-ended, crash as book-crash, write_entries as book-write_entries, write_commits as book-write_commits, homes_after as book-homes_after, newest_entry as book-newest_entry, held_or as book-held_or, own_or as book-own_or, read_by as book-reads}
 use Rattle.model.specs.examples.Lines.{does, gives, refuses, events_of, answers_of}
-use Rattle.model.specs.examples.Trials.{room as trial-room, lane, fill, goes, answer_of, answers, fresh, base, tag_at, start_of, next_of, read_of, last_read_of, reopened, trial1, trial1_high, trial2, trial3, stores, commits, first_lost, trial4, trial5, in_turn, answers_then, full_and_freed, trial6and7, trial8, trial9, unformatted, trial10, starting_at, trial13, marked_with, head_marks, trials, all_match, positions}
+use Rattle.model.specs.examples.Trials.{room as trial-room, lane, fill, goes, answer_of, answers, fresh, base, tag_at, start_of, next_of, read_of, last_read_of, reopened, trial1, trial1_high, trial2, trial3, stores, commits, first_lost, trial4, trial5, in_turn, answers_then, full_and_freed, trial6and7, trial8, trial9, unformatted, trial10, starting_at, trial13, marked_with, head_marks, positions}
 use Rattle.model.specs.History.{calls}
 use Rattle.model.specs.examples.Witnesses.{open_again, history_lines, used_before, used_copies, format_leaves, opens_with, formats_so, alike, allowed, reopen, refusals, seven, alone, wraps, loses, again, history, plain, answered, filled_with, ends_so, goes_onto, goes_so, goes_as_listed, opens_larger}
 use Rattle.model.specs.examples.Positions.{seen_of, first_commits, both_commit, next_group, first_trimmed, opened_again, listed, lent_other, shows_at, over_damage, wrong_length}

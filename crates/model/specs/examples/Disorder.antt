@@ -1,9 +1,8 @@
 -- Questions 2 and 3 clause by clause: strips and headers with one thing wrong, and those that lie just inside.
-use Rattle.std.specs.Prelude.{ℕ, zero, suc, ◌+◌, ◌^◌, List, [], ◌∷◌, ◌++◌}
+use Rattle.std.specs.Prelude.{ℕ, ◌+◌, ◌^◌, List, [], ◌∷◌}
 use Rattle.model.specs.Bytes.{puts, zeros}
 use Rattle.model.specs.Layout.{header, empty_log}
-use Rattle.model.specs.State.{fresh_state, set_groups, set_homes, set_start, set_next, set_filled, set_settled, set_fenced, set_durable, set_last, set_round, set_promise, set_writer, begun, holding, logging, Writer}
-use Rattle.model.specs.Effects.{Given}
+use Rattle.model.specs.State.{fresh_state, set_groups, set_homes, set_next, set_filled, set_settled, set_fenced, set_durable, set_last, set_round, set_promise, set_writer, begun, holding, logging, Writer}
 use Rattle.model.specs.Calls.{begin_call, open_call}
 use Rattle.model.specs.examples.Trials.{lane, positions, Trial}
 

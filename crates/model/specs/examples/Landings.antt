@@ -1,6 +1,6 @@
 -- Which writes persist at a crash, and which entries the book is told have, by a table over three stretches of records: "All writes before the last
 -- passed fence have landed, any choice of those up to the next, none beyond."
-use Rattle.std.specs.Prelude.{ℕ, zero, suc, ◌+◌, Bool, true, false, cond, not, List, [], ◌∷◌, ◌++◌, eqb, take, drop, get_or, replicate}
+use Rattle.std.specs.Prelude.{ℕ, zero, suc, Bool, true, false, cond, not, List, [], ◌∷◌, ◌++◌, eqb, take, drop, get_or, replicate}
 use Rattle.model.specs.Bytes.{zeros, same}
 use Rattle.model.specs.Batch.{Record, GW, HW, KW, FN}
 use Rattle.model.specs.Crash.{Memory, persist, fates}

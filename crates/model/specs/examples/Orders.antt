@@ -1,13 +1,13 @@
 -- What stands in a batch, in which order; the bytes that an opening leaves in every ring slot; what trim does to F, the header and kept positions; a commit
 -- whose predecessor is lost. G 4, D 8, positions from 28 on.
-use Rattle.std.specs.Prelude.{ℕ, zero, suc, ◌+◌, Bool, true, false, cond, not, List, [], ◌∷◌, ◌++◌, ltb, take, get_or}
-use Rattle.model.specs.Bytes.{zeros, same}
+use Rattle.std.specs.Prelude.{ℕ, ◌+◌, true, false, cond, not, List, [], ◌∷◌, ◌++◌, ltb, take, get_or}
+use Rattle.model.specs.Bytes.{same}
 use Rattle.model.specs.Layout.{header_start, group_at}
 use Rattle.model.specs.Batch.{Record, GW, HW, KW, FN, read_batch}
 use Rattle.model.specs.State.{State, state_of}
 use Rattle.model.specs.Newest.{no_position, kept_for}
 use Rattle.model.specs.Calls.{Outcome, format_call}
-use Rattle.model.specs.History.{Call, begin, abort, store, commit, flush, confirm, settle, begin_round, step_round, trim, World, call, crash, ends, step}
+use Rattle.model.specs.History.{begin, abort, store, commit, flush, confirm, settle, begin_round, step_round, trim, World, call, crash, ends, step}
 use Rattle.model.specs.examples.Trials.{room, fill, goes, fresh, reopened, turn_bytes, unformatted, Trial}
 use Rattle.model.specs.examples.Witnesses.{open_again, reopen}
 

@@ -1,6 +1,6 @@
 -- Which commits are owed along a history (G 4, D 8, positions from 28 on): "every commit confirmed durable before, and all that an earlier opening
 -- brought back". Of each commit of the book its ticket, and 1 if it is owed.
-use Rattle.std.specs.Prelude.{ℕ, Bool, true, false, cond, List, [], ◌∷◌, ◌++◌}
+use Rattle.std.specs.Prelude.{ℕ, false, cond, List, [], ◌∷◌, ◌++◌}
 use Rattle.model.specs.Book.{Commit}
 use Rattle.model.specs.History.{Call, begin, store, commit, flush, confirm, settle, trim, World, crash, row_fates, step}
 use Rattle.model.specs.DemandThree.{lost}

@@ -1,6 +1,6 @@
 -- Calls in which two questions fail at once: the one that stands first in its order answers. For every two neighbours of every call's order that can
 -- both fail. (A writer that is not open holds nothing, so that 7 never meets 8 or 9.)
-use Rattle.std.specs.Prelude.{ℕ, ◌+◌, ◌*◌, ◌^◌, List, [], ◌∷◌, ◌++◌, replicate}
+use Rattle.std.specs.Prelude.{ℕ, ◌+◌, ◌*◌, ◌^◌, List, [], ◌∷◌, replicate}
 use Rattle.model.specs.Bytes.{puts, zeros}
 use Rattle.model.specs.Layout.{header}
 use Rattle.model.specs.State.{fresh_state, set_homes, set_next, set_filled, set_settled, set_fenced, set_round, set_promise, set_writer, begun, holding}

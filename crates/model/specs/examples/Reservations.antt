@@ -1,5 +1,5 @@
 -- A history with promised places (request f), and tags of large stations (request d): what the calls answer. It meets answers 17 and 18.
-use Rattle.std.specs.Prelude.{ℕ, Bool, not, ◌&&◌, List, [], ◌∷◌, ◌++◌, eqb}
+use Rattle.std.specs.Prelude.{Bool, not, ◌&&◌, List, [], ◌∷◌, ◌++◌, eqb}
 use Rattle.model.specs.Tag.{entry_word, closing_word, read_tag, present, home_of}
 use Rattle.model.specs.History.{begin, reserve, abort, store, commit, flush, Event, empty_store}
 use Rattle.model.specs.examples.Lines.{Line, does, gives, refuses, events_of, answers_of}

@@ -1,13 +1,13 @@
 -- The paper's marked trials (G 4, D 8), as one table: what each yields, against the figures of the paper. Trials 1 to 9 begin just after opening a
 -- new format and count positions and starts from that opening's.
-use Rattle.std.specs.Prelude.{ℕ, zero, suc, ◌+◌, ◌-◌, ◌*◌, ◌/◌, ◌%◌, ◌^◌, Bool, true, false, cond, not, ◌&&◌, List, [], ◌∷◌, ◌++◌, eqb, ltb, length, get_or, take, drop, replicate}
+use Rattle.std.specs.Prelude.{ℕ, zero, suc, ◌+◌, ◌-◌, ◌*◌, ◌^◌, Bool, true, not, ◌&&◌, List, [], ◌∷◌, ◌++◌, ltb, get_or, take, drop, replicate}
 use Rattle.model.specs.Bytes.{puts, zeros, same}
 use Rattle.model.specs.Tag.{closing_word}
-use Rattle.model.specs.Layout.{header, empty_log, group_at, group_tag, group_block, slot_of, index_of, home_at, turn_of}
-use Rattle.model.specs.State.{State, state_of, next_position}
+use Rattle.model.specs.Layout.{header, empty_log, group_at, group_tag, slot_of, index_of, home_at, turn_of}
+use Rattle.model.specs.State.{state_of, next_position}
 use Rattle.model.specs.Effects.{Given}
 use Rattle.model.specs.Calls.{Outcome, format_call, open_call}
-use Rattle.model.specs.History.{Call, opening, begin, abort, store, commit, flush, confirm, settle, trim, read, Event, call, crash, World, empty_store, ends, after_call, step}
+use Rattle.model.specs.History.{Call, opening, begin, abort, store, commit, flush, settle, trim, read, call, crash, World, empty_store, ends, after_call, step}
 
 -- a batch buffer that suffices, a longer one for openings, and a block of one byte
 unfoldable pub room : List ℕ

@@ -1,7 +1,7 @@
 -- Settling in small steps: a history with two rounds, and what its calls answer.
-use Rattle.std.specs.Prelude.{ℕ, Bool, true, List, [], ◌∷◌, ◌++◌, replicate}
+use Rattle.std.specs.Prelude.{Bool, true, List, [], ◌∷◌, ◌++◌, replicate}
 use Rattle.model.specs.Bytes.{zeros}
-use Rattle.model.specs.History.{opening, begin, store, commit, flush, settle, begin_round, step_round, trim, read, Event, call, crash, empty_store}
+use Rattle.model.specs.History.{opening, begin, store, commit, flush, settle, begin_round, step_round, trim, read, empty_store}
 use Rattle.model.specs.examples.Lines.{Line, cut, does, gives, refuses, events_of, answers_of}
 use Rattle.model.specs.examples.Trials.{room, lane, fill, positions}
 use Rattle.model.specs.examples.Witnesses.{open_again, goes_so}

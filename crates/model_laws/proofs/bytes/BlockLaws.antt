@@ -2,10 +2,10 @@
 -- A law takes its variables in the order in which its left side first names them, then its premises. Assumes nothing.
 use mathlib.Core.Path.{◌≡◌, sym, ap, ◌∙◌}
 use mathlib.Core.List.{List}
-use Prim.Native.Nat.{ℕ, ◌+◌, ◌-◌, ◌*◌, ◌≤◌, ◌<◌}
+use Prim.Native.Nat.{ℕ, ◌+◌, ◌*◌, ◌<◌}
 use native.Mathlib.Omega.{arith}
 use lib.ListN.{length}
-use Rattle.model.specs.Bytes.{part, number}
+use Rattle.model.specs.Bytes.{part}
 use Rattle.model.specs.Layout.{group_offset, group_at, group_number, tag_offset, group_tag, block_offset, group_block, home_at}
 use Rattle.model_laws.proofs.bytes.ByteLaws.{part-within, number-part}
 use Rattle.model_laws.proofs.bytes.LayoutLaws.{area-ext}

@@ -1,5 +1,5 @@
 -- The commit rule for code that looks at the log twice: the committed transactions are those of all closing entries up to the last one committed.
-use Prim.Native.Nat.{ℕ, zero, suc, ◌+◌, ◌-◌, ◌≤◌}
+use Prim.Native.Nat.{ℕ, zero, suc, ◌+◌}
 use mathlib.Core.List.{List, [], ◌∷◌, ◌++◌}
 use Rattle.model.specs.Commit.{Span}
 use Rattle.model.specs.declared.Tag.{Tag}

@@ -5,16 +5,15 @@ use mathlib.Core.Logic.{◌⊎◌, inl, inr, ◌↔◌, ◌≢◌}
 use mathlib.Core.List.{List}
 use Prim.Native.Nat.{ℕ, zero, suc, ◌+◌, ◌*◌, ◌^◌, ◌≤◌, ◌<◌}
 use native.Mathlib.Decide.{dec_lt, ℕ_discrete}
-use native.Mathlib.Numerals.{add-one}
 use native.Mathlib.Omega.{arith}
 use borrow.Author.Tests.{leb-true, leb-false, eqb-true, eqb-false, le-leb, lt-leb, eq-eqb, ne_eqb}
 use lib.Dec.{leb, eqb}
 use lib.ListN.{length, get_or}
-use Rattle.model.specs.Bytes.{zeros, number}
+use Rattle.model.specs.Bytes.{zeros}
 use Rattle.model.specs.declared.State.{State}
 use Rattle.model.specs.declared.Writer.{Writer}
 use Rattle.model.specs.State.{state_of, writer_of, one_more_than, idle, is_open_now, promise_of, promised, places, fresh_numbers, fresh_state, next_position, numbers_in_order, writer_in_order, promise_in_order, writer_at_in_order, writers_in_order, is_in_order}
-use Rattle.model_laws.proofs.bytes.ByteLaws.{length-zeros, number-none, number_more}
+use Rattle.model_laws.proofs.bytes.ByteLaws.{length-zeros}
 use Rattle.model_laws.proofs.state.StateLaws.{length-laws, state-laws, writer-laws}
 use Rattle.model_laws.proofs.state.PromiseLaws.{promise-laws, promise-zeros, promised-none, promise-most}
 use Rattle.model_laws.proofs.state.ListedLaws.{length-set_listed, state-set_listed, writer-set_listed, promise-set_listed}

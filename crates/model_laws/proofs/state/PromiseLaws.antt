@@ -1,12 +1,12 @@
 -- Laws of the promises in the state strip (specs/State), named as those of StateLaws, and of their sum. Assumes nothing.
-use mathlib.Core.Path.{◌≡◌, refl, sym, ◌∙◌}
-use mathlib.Core.Logic.{◌⊎◌, inl, inr, ◌≢◌}
+use mathlib.Core.Path.{◌≡◌, refl, sym}
+use mathlib.Core.Logic.{inl, inr, ◌≢◌}
 use mathlib.Core.List.{List}
 use Prim.Native.Nat.{ℕ, zero, suc, ◌+◌, ◌*◌, ◌^◌, ◌≤◌, ◌<◌}
 use native.Mathlib.Decide.{dec_lt, ℕ_discrete}
 use native.Mathlib.Omega.{arith}
 use lib.ListN.{length, get_or}
-use Rattle.model.specs.Bytes.{part, zeros, put_number}
+use Rattle.model.specs.Bytes.{zeros, put_number}
 use Rattle.model.specs.declared.Writer.{Writer}
 use Rattle.model.specs.State.{state_of, set_groups, set_homes, set_start, set_next, set_filled, set_settled, set_fenced, set_durable, set_last, set_round, set_cursor, mode_offset, writer_offset, writer_of, set_writer, held_offset, held_of, set_held, promise_offset, promise_of, set_promise, promised}
 use Rattle.model_laws.proofs.bytes.ByteLaws.{length-put_number, number_same, number-put-below, number-put-above, number-same-part, number_lt, part-put-below, part-put-above}

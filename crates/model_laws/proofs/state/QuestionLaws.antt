@@ -1,16 +1,14 @@
 -- The questions: what an answer of 0 says of what was lent, and which of two failing questions answers.
-use mathlib.Core.Path.{◌≡◌, refl, sym, ap, ◌∙◌}
+use mathlib.Core.Path.{◌≡◌, refl, sym, ◌∙◌}
 use mathlib.Core.Bool.{Bool, true, false, not, ◌&&◌, ◌||◌, false≢true}
-use mathlib.Core.Logic.{◌⊎◌, inl, inr, ◌↔◌}
+use mathlib.Core.Logic.{◌⊎◌, inl, inr}
 use mathlib.Core.List.{List}
-use Prim.Native.Nat.{ℕ, zero, suc, ◌+◌, ◌-◌, ◌*◌, ◌≤◌, ◌<◌}
+use Prim.Native.Nat.{ℕ, suc, ◌+◌, ◌-◌, ◌*◌, ◌≤◌, ◌<◌}
 use native.Mathlib.Omega.{arith}
-use lib.ListN.{length}
 use lib.Dec.{leb, ltb, eqb}
-use borrow.Author.Tests.{leb-true, leb-false, ltb-true, eqb-true, eqb-false, lt-leb, le-leb, eq-eqb, ne_eqb}
+use borrow.Author.Tests.{leb-true, leb-false, ltb-true, eqb-true, lt-leb}
 use Rattle.model.specs.Layout.{max_start}
-use Rattle.model.specs.declared.State.{State}
-use Rattle.model.specs.State.{state_of, under_way, next_position, promise_of, promised, places, free_places}
+use Rattle.model.specs.State.{state_of, under_way, promise_of, promised, places, free_places}
 use Rattle.model.specs.Effects.{Given}
 use Rattle.model.specs.Questions.{ask, areas_right, state_right, block_right, newest_right, state_in_order, header_fits, writer_known, is_home_known, store_allowed, read_allowed, writer_open, room_for, room, may_promise, keeps_promises, store_logs, commit_logs, start_fits, batch_fits, format_answer, open_answer, ask_state, ask_block, ask_newest, ask_both, begin_answer, reserve_answer, abort_answer, store_answer, commit_answer, flush_answer, confirm_answer, settle_answer, trim_answer, read_answer, in_round, begin_round_answer, step_round_answer}
 

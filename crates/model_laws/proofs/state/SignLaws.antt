@@ -1,21 +1,21 @@
 -- Laws of the list's sign in the state strip (specs/State) and of what commit keeps of the list (specs/Rights). The sign lies where a fifth position of
 -- the list would, so the laws of the positions in ListedLaws hold for it. Assumes nothing.
-use mathlib.Core.Path.{◌≡◌, refl, sym, ap, ◌∙◌}
+use mathlib.Core.Path.{◌≡◌, refl, sym, ◌∙◌}
 use mathlib.Core.Bool.{Bool, true, false, cond, not, ◌&&◌, false≢true}
 use mathlib.Core.List.{List, []}
 use mathlib.Core.Option.{none, some}
 use Prim.Native.Nat.{ℕ, zero, suc, ◌+◌, ◌*◌, ◌^◌, ◌≤◌, ◌<◌}
 use native.Mathlib.Omega.{arith}
 use lib.Dec.{eqb, leb}
-use lib.ListN.{length, replicate, length-replicate}
+use lib.ListN.{length}
 use borrow.Author.Tests.{le-leb, lt-leb, leb-true, eqb-true, eqb-false}
-use Rattle.model.specs.Bytes.{part, number, value, zeros, same}
+use Rattle.model.specs.Bytes.{part, zeros, same}
 use Rattle.model.specs.Layout.{home_at}
-use Rattle.model.specs.State.{state_of, set_groups, set_homes, set_start, set_next, set_settled, set_fenced, set_durable, fresh_numbers, fresh_state, mode_offset, writer_offset, writer_of, held_offset, held_of, promise_offset, promise_of, list_home, listed_of, set_listed, list_sign, set_list_sign}
+use Rattle.model.specs.State.{state_of, fresh_numbers, fresh_state, mode_offset, writer_offset, writer_of, held_offset, held_of, promise_offset, promise_of, list_home, listed_of, set_listed, list_sign, set_list_sign}
 use Rattle.model.specs.Newest.{no_position, kept_for, carry_listed}
 use Rattle.model.specs.Given.{Given, homes, tags_of, live_base, live_tags, block_or, is_there}
-use Rattle.model.specs.Rights.{for_home, shown_at, list_by, read_list, in_ranges, is_list, may_store, may_read, list_moved, sign_for, open_sign, sign_if, keep_list, same_listed, signed_list, right_to_store, right_to_read, Faithful}
-use Rattle.model_laws.proofs.bytes.ByteLaws.{length-zeros, length-put_number, length_part, part-put-below, number-same-part, number-put-below, number-put-above, number-above}
+use Rattle.model.specs.Rights.{for_home, shown_at, read_list, is_list, may_store, may_read, list_moved, sign_for, open_sign, sign_if, keep_list, same_listed, signed_list, right_to_store, right_to_read, Faithful}
+use Rattle.model_laws.proofs.bytes.ByteLaws.{length-zeros, length-put_number, length_part, part-put-below, number-same-part, number-put-below, number-above}
 use Rattle.model_laws.proofs.state.StateLaws.{length-laws, state-agree, writer-agree, number-back}
 use Rattle.model_laws.proofs.state.RightLaws.{list-by}
 use Rattle.model_laws.proofs.state.ListedLaws.{length-set_listed, listed-ones, length-carry, state-carry, writer-carry, held-carry, promise-carry, listed-carry}

@@ -9,12 +9,12 @@ use native.Mathlib.Decide.{dec_le, ℕ_discrete}
 use native.Mathlib.Omega.{arith}
 use lib.ListN.{length, get_or, take, length-append, get_or-append}
 use lib.Seq.{take_all, take-append-le, get_or-append_seam}
-use Rattle.model.specs.Layout.{block_at, home_at, put_home}
+use Rattle.model.specs.Layout.{block_at, home_at}
 use Rattle.model.specs.Commit.{newest}
 use Rattle.model.specs.Effects.{marked, restore_home, restored_homes}
 use Rattle.model.specs.declared.Tag.{Tag}
 use Rattle.model_laws.proofs.bytes.LayoutLaws.{length-put_home, home_same, home-other}
-use Rattle.model_laws.proofs.trace.HomeLaws.{In, in_left, in_right}
+use Rattle.model_laws.proofs.trace.HomeLaws.{In}
 use Rattle.model_laws.proofs.trace.ReplayLaws.{block_for}
 
 -- ---- the first k of the marked homes are those below a bound: the k-th and one
