@@ -3,7 +3,7 @@ use mathlib.Core.Path.{◌≡◌, refl, sym, ap, ◌∙◌}
 use mathlib.Core.Bool.{Bool, true, false, ◌&&◌}
 use mathlib.Core.List.{List}
 use mathlib.Core.Logic.{◌≢◌}
-use Prim.Native.Nat.{ℕ, zero, suc, ◌+◌, ◌-◌, ◌*◌, ◌/◌, ◌%◌, ◌^◌, ◌≤◌, ◌<◌}
+use Prim.Native.Nat.{ℕ, ◌+◌, ◌-◌, ◌*◌, ◌/◌, ◌%◌, ◌^◌, ◌≤◌, ◌<◌}
 use native.Mathlib.Decide.{ℕ_discrete}
 use native.Mathlib.Omega.{arith}
 use borrow.Author.Tests.{lt-ltb}
@@ -11,16 +11,15 @@ use lib.Bits.{bit_xor, xor_self, xor_shr, xor_add_and, and_le_l, and_le_r}
 use lib.Dec.{eqb}
 use lib.ListN.{take, drop}
 use Rattle.model.specs.Bytes.{part, number, same}
-use Rattle.model.specs.Tag.{entry_word, with_displaced, displaced, home_field, field, read_tag, belongs, home_of}
+use Rattle.model.specs.Tag.{entry_word, with_displaced, displaced, home_field, field, read_tag, belongs}
 use Rattle.model.specs.Layout.{group_mark, group_at, group_valid, top_bit, word_there, entry_within, entry_at}
-use Rattle.model.specs.Commit.{Span, entries, members, write_all}
+use Rattle.model.specs.Commit.{entries}
 use Rattle.model.specs.Newest.{keep, keep_entry, keep_entries}
 use Rattle.model.specs.declared.Tag.{Tag}
 use Rattle.model.specs.declared.Tag.TheVariants.{Nothing, Entry, Closing}
 use Rattle.model_laws.proofs.bytes.TagLaws.{field_lt, entry-fits, read-entry, read-zero, read-displaced, entry_known, closing-known, entry-fields, closing-fields}
 use Rattle.model_laws.proofs.rule.MemberLaws.{entries_at}
 use Rattle.log_scan.specs.Members.{taking}
-use Rattle.log_scan.specs.Scan.{over}
 use Rattle.log_scan.proofs.GroupLaws.{word-other, word_fits, valid-range, part-group}
 use Rattle.log_scan.proofs.PassLaws.{group-hole, log-turn}
 use Rattle.log_scan.proofs.MemberPass.{taking-back, taking-other, taking-quiet, taking-entry, taking-closing, over-before, over-members}

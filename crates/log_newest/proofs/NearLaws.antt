@@ -1,12 +1,12 @@
 -- Laws of a word that differs from that of an entry for home 0 in a near home, below 4,096, and perhaps in its displaced bit. Assumes nothing.
 use mathlib.Core.Path.{◌≡◌, refl, sym, ap, ◌∙◌}
-use Prim.Native.Nat.{ℕ, ◌+◌, ◌-◌, ◌*◌, ◌/◌, ◌%◌, ◌^◌, ◌≤◌, ◌<◌}
+use Prim.Native.Nat.{ℕ, ◌+◌, ◌*◌, ◌/◌, ◌%◌, ◌^◌, ◌≤◌, ◌<◌}
 use native.Mathlib.Nat.{div-add-mod', mul-div_left, mul-mod_left}
 use native.Mathlib.Omega.{arith}
 use lib.Arith.{mod-mul}
 use lib.Bits.{bit_and, bit_xor, xor_lt, xor_zero_r, xor_block, xor_add_and, and_le_l, and_le_r, and_zero_r, and_shr, and_mod}
 use Rattle.model.specs.Tag.{tag_word, entry_word, with_displaced, displaced, field}
-use Rattle.model_laws.proofs.bytes.TagLaws.{field_lt, entry-fits}
+use Rattle.model_laws.proofs.bytes.TagLaws.{field_lt}
 use Rattle.base_codec.proofs.PlainLaws.{and-field}
 
 xor-none : (a b : ℕ) → bit_xor a b ≡ 0 → a ≡ b

@@ -12,7 +12,7 @@ use base_codec::{GROUP_SIZE, HEADER_SIZE};
 use log_scan::RingSlot;
 
 // How far the pass has come: to tag `done` of the group with number `number`, which lies at `at`.
-#[derive(Drop)]
+#[derive(Clone, Copy)]
 pub struct Pass {
     pub number: u64,
     pub at: RingSlot,

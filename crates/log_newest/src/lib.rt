@@ -1,4 +1,6 @@
 // The newest positions: a strip with, for each home, the position of its newest committed entry, in eight bytes, or all ones for none.
+#![tactic(auto)]
+
 mod commits;
 mod groups;
 mod near;

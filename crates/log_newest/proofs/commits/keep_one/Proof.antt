@@ -6,43 +6,41 @@ use borrow.Author.Rules.{rules}
 use Rattle.log_newest.proofs.commits.keep_one.Statement.{statement}
 use Rattle.log_newest.proofs.commits.keep_one.Tie as tie
 
-first-slot-requires : tie.Need-first-slot-requires
+first-slot-requires : tie.Need-first_slot-ring-requires
 first-slot-requires c κs = search rules
 
-mul-from : tie.Need-overflow-mul-from
+mul-from : tie.Need-overflow_mul-from
 mul-from c = search rules
 
-add-from : tie.Need-overflow-add-from
+add-from : tie.Need-overflow_add-from
 add-from c = search rules
 
-add-group : tie.Need-overflow-add-group
+add-group : tie.Need-overflow_add-group
 add-group c = search rules
 
-sub-group : tie.Need-overflow-sub-group
+sub-group : tie.Need-slice_bounds-group-count
 sub-group c = search rules
 
-part-group-start : tie.Need-slice-bounds-group-start
+part-group-start : tie.Need-slice_bounds-group-start
 part-group-start c = search rules
 
-part-group-end : tie.Need-slice-bounds-group-end
+part-group-end : tie.Need-slice_bounds-group-end
 part-group-end c = search rules
 
-keep-alone-requires : tie.Need-keep-alone-requires
+keep-alone-requires : tie.Need-keep_alone-requires
 keep-alone-requires c κs = search rules
 
-same_length : tie.Need-same-length
+same_length : tie.Need-shape_of-newest
 same_length c = search rules
 
 returns : tie.Need-returns
 returns c =
-    let k = c.before.before in
-    let s = k.before.before.before in
     kept-all _ _ _ _ _ _ _ (omega arith) (omega arith)
-    (rest-taken _ _ _ _ _ _ _ _ _ _ _ _ _ s.first_slot.ensures.same refl (omega arith) (omega arith) k.keep-alone.ensures
+    (rest-taken _ _ _ _ _ _ _ _ _ _ _ _ _ c.first_slot-ring.ensures.same refl (omega arith) (omega arith) c.keep_alone.ensures
     (taken_start _ _ _ _ _ _ _ _ (omega arith) (omega arith)))
 
-pub keep-one-spec : {M : Type 1} → statement M
-keep-one-spec =
+pub keep_one_spec : {M : Type 1} → statement M
+keep_one_spec =
     tie.close
     (tie.spec
     first-slot-requires

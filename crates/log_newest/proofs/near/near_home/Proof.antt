@@ -8,7 +8,7 @@ use Rattle.log_newest.proofs.NearLaws.{near_word, turned-fits, turned-small}
 use Rattle.log_newest.proofs.near.near_home.Statement.{statement}
 use Rattle.log_newest.proofs.near.near_home.Tie as tie
 
-add-result : tie.Need-overflow-add-result
+add-result : tie.Need-overflow_add-result
 add-result c =
     let a = c.args in
     record {
@@ -24,5 +24,5 @@ returns c l back e h =
     near_word a.word a.plain back (omega arith) e h _ refl t.0 t.1
     ∙ ap (λ (v : ℕ). with_displaced (entry_word v back) (displaced a.word)) t.2
 
-pub near-home-spec : {M : Type 1} → statement M
-near-home-spec = tie.close (tie.spec add-result returns)
+pub near_home_spec : {M : Type 1} → statement M
+near_home_spec = tie.close (tie.spec add-result returns)

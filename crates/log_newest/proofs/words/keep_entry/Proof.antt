@@ -5,41 +5,38 @@ use Rattle.log_newest.proofs.KeepLaws.{kept-after}
 use Rattle.log_newest.proofs.words.keep_entry.Statement.{statement}
 use Rattle.log_newest.proofs.words.keep_entry.Tie as tie
 
-sub-entry-word : tie.Need-overflow-sub-entry-word
+sub-entry-word : tie.Need-overflow_sub-position
 sub-entry-word c = search rules
 
-entry-word-requires : tie.Need-entry-word-requires
+entry-word-requires : tie.Need-entry_word-plain-requires
 entry-word-requires c κs = search rules
 
-keep-plain-requires : tie.Need-keep-plain-requires
+keep-plain-requires : tie.Need-keep_plain-requires
 keep-plain-requires c κs = search rules
 
-same_length : tie.Need-same-length
+same_length : tie.Need-shape_of-newest-then-keep_plain
 same_length c = search rules
 
-returns : tie.Need-returns
+returns : tie.Need-returns-then-keep_plain
 returns c =
-    let k = c.before.before.before in
-    k.keep-plain.ensures.1 c.if1.true _ _
-    (record { word = k.before.before.entry-word.ensures; start = omega arith; from = omega arith; near = omega arith })
+    c.keep_plain.ensures.1 c.if-keep_plain.true _ _
+    (record { word = c.entry_word-plain.ensures; start = omega arith; from = omega arith; near = omega arith })
 
-word-there-requires : tie.Need-word-there-requires
+word-there-requires : tie.Need-word_there-word-requires
 word-there-requires c κs = search rules
 
-keep-word-requires : tie.Need-keep-word-requires
+keep-word-requires : tie.Need-keep_word-requires
 keep-word-requires c κs = search rules
 
-same-length-2 : tie.Need-same-length-2
+same-length-2 : tie.Need-shape_of-newest
 same-length-2 c = search rules
 
-returns-2 : tie.Need-returns-2
+returns-2 : tie.Need-returns
 returns-2 c =
-    let w = c.before.before.before.before in
-    let i = w.before in
-    kept-after _ _ _ _ _ _ (rw (← w.word-there.ensures) c.before.before.keep_word.ensures) (i.before.before.before.keep-plain.ensures.0 i.if1.false)
+    kept-after _ _ _ _ _ _ (rw (← c.word_there-word.ensures) c.keep_word.ensures) (c.keep_plain.ensures.0 c.if-keep_plain.false)
 
-pub keep-entry-spec : {M : Type 1} → statement M
-keep-entry-spec =
+pub keep_entry_spec : {M : Type 1} → statement M
+keep_entry_spec =
     tie.close
     (tie.spec
     sub-entry-word

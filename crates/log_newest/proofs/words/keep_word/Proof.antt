@@ -5,66 +5,59 @@ use Rattle.log_newest.proofs.KeepLaws.{kept-other, kept-nothing, kept_entry, kep
 use Rattle.log_newest.proofs.words.keep_word.Statement.{statement}
 use Rattle.log_newest.proofs.words.keep_word.Tie as tie
 
-tag-back-requires : tie.Need-tag-back-requires
+tag-back-requires : tie.Need-tag_back-requires
 tag-back-requires c κs = search rules
 
-sub-if1 : tie.Need-overflow-sub-if1
+sub-if1 : tie.Need-overflow_sub-position
 sub-if1 c = search rules
 
-returns : tie.Need-returns
-returns c = kept-other _ _ _ _ _ _ _ c.before.tag_back.ensures c.if1.true
+returns : tie.Need-returns-then-tag_back-position
+returns c = kept-other _ _ _ _ _ _ _ c.tag_back.ensures c.if-tag_back-position.true
 
-read-tag-requires : tie.Need-read-tag-requires
+read-tag-requires : tie.Need-read_tag-requires
 read-tag-requires c κs = search rules
 
-enum_told : tie.Need-enum-told
+enum_told : tie.Need-enum_told-1
 enum_told c = search rules
 
-enum-known-home : tie.Need-enum-known-home
+enum-known-home : tie.Need-enum_known-home
 enum-known-home c = search rules
 
 keep-requires : tie.Need-keep-requires
 keep-requires c κs =
-    let r = c.before.before.before.before in
-    let l = entry-low _ _ _ _ _ r.read-tag.ensures _ _ c.before.before.home.given.1 in
+    let l = entry-low _ _ _ _ _ c.read_tag.ensures _ _ c.in-Entry.is in
     omega (arith, l)
 
-enum-known-home-2 : tie.Need-enum-known-home-2
+enum-known-home-2 : tie.Need-enum_known-home-in-Closing-1
 enum-known-home-2 c = search rules
 
-keep-requires-2 : tie.Need-keep-requires-2
+keep-requires-2 : tie.Need-keep-requires-in-Closing
 keep-requires-2 c κs =
-    let r = c.before.before.before.before in
-    let l = closing-low _ _ _ _ _ r.read-tag.ensures _ _ _ _ c.before.before.home2.given.1 in
+    let l = closing-low _ _ _ _ _ c.read_tag.ensures _ _ _ _ c.in-Closing.is in
     omega (arith, l)
 
-returns-2 : tie.Need-returns-2
+returns-2 : tie.Need-returns-in-Nothing
 returns-2 c =
-    let r = c.before.before in
-    kept-nothing _ _ _ _ _ _ _ r.before.before.tag_back.ensures r.before.if1.false (omega arith) _ r.read-tag.ensures c.enum_told.given.1
+    kept-nothing _ _ _ _ _ _ _ c.tag_back.ensures c.if-tag_back-position.false (omega arith) _ c.read_tag.ensures c.in-Nothing.is
 
-same_length : tie.Need-same-length
+same_length : tie.Need-shape_of-newest-in-Entry
 same_length c = search rules
 
-returns-3 : tie.Need-returns-3
+returns-3 : tie.Need-returns-in-Entry
 returns-3 c =
-    let h = c.before.before.before.before.before in
-    let r = h.before.before in
-    kept_entry _ _ _ _ _ _ _ r.before.before.tag_back.ensures r.before.if1.false (omega arith) _ r.read-tag.ensures _ _ _ h.home.given.1
-    c.before.before.keep.ensures
+    kept_entry _ _ _ _ _ _ _ c.tag_back.ensures c.if-tag_back-position.false (omega arith) _ c.read_tag.ensures _ _ _ c.in-Entry.is
+    c.keep.ensures
 
-same-length-2 : tie.Need-same-length-2
+same-length-2 : tie.Need-shape_of-newest-in-Closing
 same-length-2 c = search rules
 
-returns-4 : tie.Need-returns-4
+returns-4 : tie.Need-returns-in-Closing
 returns-4 c =
-    let h = c.before.before.before.before.before in
-    let r = h.before.before in
-    kept-closing _ _ _ _ _ _ _ r.before.before.tag_back.ensures r.before.if1.false (omega arith) _ r.read-tag.ensures _ _ _ _ _ h.home2.given.1
-    c.before.before.keep2.ensures
+    kept-closing _ _ _ _ _ _ _ c.tag_back.ensures c.if-tag_back-position.false (omega arith) _ c.read_tag.ensures _ _ _ _ _ c.in-Closing.is
+    c.keep-in-Closing.ensures
 
-pub keep-word-spec : {M : Type 1} → statement M
-keep-word-spec =
+pub keep_word_spec : {M : Type 1} → statement M
+keep_word_spec =
     tie.close
     (tie.spec
     tag-back-requires
