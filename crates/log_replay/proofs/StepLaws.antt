@@ -1,13 +1,13 @@
 -- Laws of a round's step: the touched homes of a stretch of homes, one home after another and one word after another. Assumes nothing.
 use mathlib.Core.Path.{◌≡◌, refl, sym, ap, ◌∙◌}
-use mathlib.Core.Logic.{◌⊎◌, inl, inr, ◌≢◌}
+use mathlib.Core.Logic.{inl, inr, ◌≢◌}
 use mathlib.Core.Bool.{Bool, true, false, cond, ◌&&◌, false≢true}
 use mathlib.Core.List.{List, [], ◌∷◌, ◌++◌, append-nil}
 use mathlib.Core.Option.{Option, none, some}
-use Prim.Native.Nat.{ℕ, zero, suc, ◌+◌, ◌-◌, ◌*◌, ◌≤◌, ◌<◌}
+use Prim.Native.Nat.{ℕ, ◌+◌, ◌-◌, ◌*◌, ◌≤◌, ◌<◌}
 use native.Mathlib.Decide.{dec_lt, dec_le}
 use native.Mathlib.Omega.{arith}
-use borrow.Author.Tests.{eqb-true, eqb-false, eq-eqb, ne_eqb, leb-true, le-leb, lt-leb}
+use borrow.Author.Tests.{eqb-true, eqb-false, eq-eqb, ne_eqb, le-leb, lt-leb}
 use lib.Dec.{eqb, leb}
 use lib.ListN.{length, get_or, take, length-append, get_or-append}
 use lib.Seq.{take_at, get_or_at}
@@ -20,10 +20,10 @@ use Rattle.model.specs.declared.Tag.{Tag}
 use Rattle.model_laws.proofs.bytes.ByteLaws.{puts-append, puts-nil}
 use Rattle.model_laws.proofs.trace.HomeLaws.{In, in-marked}
 use Rattle.base_bitmap.specs.Marks.{raised}
-use Rattle.base_bitmap.proofs.MarkedLaws.{raised-nil, raised-cons, raised-append, length-raised, marked-zero, marked-same, marked-none, marked-add, marked-up-to, length_marked}
+use Rattle.base_bitmap.proofs.MarkedLaws.{raised-nil, raised-cons, raised-append, length-raised, marked-zero, marked-same, marked-none, marked-add, length_marked}
 use Rattle.base_bitmap.proofs.WordLaws.{no_bits}
 use Rattle.base_batch.specs.Within.{Within}
-use Rattle.base_batch.proofs.HomeLaws.{bytes-append, bytes-nil, bytes-cons, length-writes, within-right, within-marked}
+use Rattle.base_batch.proofs.HomeLaws.{bytes-append, bytes-nil, bytes-cons, length-writes, within-marked}
 use Rattle.log_scan.specs.Walk.{Walkable, closed_below}
 use Rattle.log_replay.specs.Best.{offset_code}
 use Rattle.log_replay.specs.Words.{Newest, touches, word_homes}

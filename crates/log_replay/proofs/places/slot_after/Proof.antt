@@ -6,14 +6,14 @@ use Rattle.log_replay.proofs.PlaceLaws.{slot-within, slot-past}
 use Rattle.log_replay.proofs.places.slot_after.Statement.{statement}
 use Rattle.log_replay.proofs.places.slot_after.Tie as tie
 
-add-next : tie.Need-overflow-add-next
+add-next : tie.Need-overflow_add-next
 add-next c = search rules
 
-returns : tie.Need-returns
-returns c = (slot-within _ _ _ c.if1.true, c.if1.true)
+returns : tie.Need-returns-then-next-groups
+returns c = (slot-within _ _ _ c.if-next-groups.true, c.if-next-groups.true)
 
-returns-2 : tie.Need-returns-2
-returns-2 c = (slot-past _ _ _ _ (omega arith) (omega arith) c.if1.false refl, omega arith)
+returns-2 : tie.Need-returns-else-next-groups
+returns-2 c = (slot-past _ _ _ _ (omega arith) (omega arith) c.if-next-groups.false refl, omega arith)
 
-pub slot-after-spec : {M : Type 1} → statement M
-slot-after-spec = tie.close (tie.spec add-next returns returns-2)
+pub slot_after_spec : {M : Type 1} → statement M
+slot_after_spec = tie.close (tie.spec add-next returns returns-2)

@@ -6,52 +6,52 @@ use Rattle.log_replay.proofs.RestoreLaws.{length-restored, word-length, word-rea
 use Rattle.log_replay.proofs.restore.bring_chain.Statement.{statement}
 use Rattle.log_replay.proofs.restore.bring_chain.Tie as tie
 
-slice-aggregate-newest-in : tie.Need-slice-aggregate-newest-in
+slice-aggregate-newest-in : tie.Need-slice_bounds-newest_in-end
 slice-aggregate-newest-in c = refl
 
-newest-in-requires : tie.Need-newest-in-requires
-newest-in-requires c κs = let p = c.before.before.before.before.before.before.before.requires in (p.0, p.2, p.3, p.4, refl)
+newest-in-requires : tie.Need-newest_in-bits-requires
+newest-in-requires c κs = let p = c.requires in (p.0, p.2, p.3, p.4, refl)
 
-slice-aggregate-restore-word : tie.Need-slice-aggregate-restore-word
-slice-aggregate-restore-word c = sym c.before.before.before.newest-in.ensures.each
+slice-aggregate-restore-word : tie.Need-slice_bounds-restore_word-end
+slice-aggregate-restore-word c = sym c.newest_in-bits.ensures.each
 
-mul-restore-word : tie.Need-overflow-mul-restore-word
+mul-restore-word : tie.Need-overflow_mul-w
 mul-restore-word c = omega arith
 
-restore-word-requires : tie.Need-restore-word-requires
+restore-word-requires : tie.Need-restore_word-requires
 restore-word-requires c κs =
-    let p = c.before.before.before.before.before.before.before.before.before.before.before.requires in
-    (p.0.long, p.0.most, p.0.some, p.0.low, p.4, omega arith, word-ready _ _ _ _ _ p.0 _ _ _ c.before.before.before.newest-in.ensures _ p.5)
+    let p = c.requires in
+    (p.0.long, p.0.most, p.0.some, p.0.low, p.4, omega arith, word-ready _ _ _ _ _ p.0 _ _ _ c.newest_in-bits.ensures _ p.5)
 
-mul-emit-word : tie.Need-overflow-mul-emit-word
+mul-emit-word : tie.Need-overflow_mul-w-2
 mul-emit-word c = omega arith
 
-emit-word-requires : tie.Need-emit-word-requires
+emit-word-requires : tie.Need-emit_word-requires
 emit-word-requires c κs =
-    let p = c.before.before.before.before.before.before.before.before.before.before.before.before.before.before.before.before.requires in
-    let n = c.before.before.before.before.before.before.before.before.newest-in.ensures in
-    let s = ap length c.before.before.before.before.restore-word.ensures ∙ length-restored _ _ _ _ _ ∙ p.5 in
+    let p = c.requires in
+    let n = c.newest_in-bits.ensures in
+    let s = ap length c.restore_word.ensures ∙ length-restored _ _ _ _ _ ∙ p.5 in
     (word-within _ _ _ _ _ p.0 _ _ _ n _ s, (omega (arith, word-length _ _ _ _ _ p.0 _ _ _ n, p.6), omega arith))
 
-same_length : tie.Need-same-length
-same_length c = ap length c.before.before.before.before.before.before.before.restore-word.ensures ∙ length-restored _ _ _ _ _
+same_length : tie.Need-shape_of-area
+same_length c = ap length c.restore_word.ensures ∙ length-restored _ _ _ _ _
 
-same-length-2 : tie.Need-same-length-2
+same-length-2 : tie.Need-shape_of-batch
 same-length-2 c = omega arith
 
 returns : tie.Need-returns
 returns c =
-    let p = c.before.before.before.before.before.before.before.before.before.before.before.before.before.before.before.before.before.before.before.requires in
-    let n = c.before.before.before.before.before.before.before.before.before.before.before.newest-in.ensures in (
-      omega (arith, c.before.before.emit-word.ensures.1, word-length _ _ _ _ _ p.0 _ _ _ n),
+    let p = c.requires in
+    let n = c.newest_in-bits.ensures in (
+      omega (arith, c.emit_word.ensures.1, word-length _ _ _ _ _ p.0 _ _ _ n),
       (
-        word-restored _ _ _ _ _ p.0 _ _ _ n _ _ c.before.before.before.before.before.before.before.restore-word.ensures,
-        word-written _ _ _ _ _ p.0 _ _ _ n _ _ _ _ c.before.before.emit-word.ensures.0,
+        word-restored _ _ _ _ _ p.0 _ _ _ n _ _ c.restore_word.ensures,
+        word-written _ _ _ _ _ p.0 _ _ _ n _ _ _ _ c.emit_word.ensures.0,
       ),
     )
 
-pub bring-chain-spec : {M : Type 1} → statement M
-bring-chain-spec =
+pub bring_chain_spec : {M : Type 1} → statement M
+bring_chain_spec =
     tie.close
     (tie.spec
     slice-aggregate-newest-in

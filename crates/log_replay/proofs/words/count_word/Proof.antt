@@ -6,29 +6,29 @@ use Rattle.log_replay.proofs.RestoreLaws.{empty-word, word-length}
 use Rattle.log_replay.proofs.words.count_word.Statement.{statement}
 use Rattle.log_replay.proofs.words.count_word.Tie as tie
 
-mul-if1 : tie.Need-overflow-mul-if1
-mul-if1 c = omega (arith, c.before.before.before.before.requires.1.room.words)
+mul-if1 : tie.Need-offset_bounds-heads-w
+mul-if1 c = omega (arith, c.requires.1.room.words)
 
-shared-slice-read-if1 : tie.Need-shared-slice-read-if1
-shared-slice-read-if1 c = omega (arith, c.before.before.before.before.before.requires.1.room.words)
+shared-slice-read-if1 : tie.Need-bounds-heads-w
+shared-slice-read-if1 c = omega (arith, c.requires.1.room.words)
 
-returns : tie.Need-returns
-returns c = let p = c.before.before.before.before.before.before.requires in sym (ap length (empty-word _ _ _ _ _ p.0 _ _ _ p.1 _ p.2 c.if1.true))
+returns : tie.Need-returns-then-heads-w-eq0
+returns c = let p = c.requires in sym (ap length (empty-word _ _ _ _ _ p.0 _ _ _ p.1 _ p.2 c.if-heads-w-eq0.true))
 
-slice-aggregate-newest-in : tie.Need-slice-aggregate-newest-in
+slice-aggregate-newest-in : tie.Need-slice_bounds-newest_in-end
 slice-aggregate-newest-in c = refl
 
-newest-in-requires : tie.Need-newest-in-requires
-newest-in-requires c κs = let p = c.before.before.before.before.before.before.before.requires in (p.0, p.1, p.2, p.3, refl)
+newest-in-requires : tie.Need-newest_in-bits-requires
+newest-in-requires c κs = let p = c.requires in (p.0, p.1, p.2, p.3, refl)
 
 ones-requires : tie.Need-ones-requires
 ones-requires c κs = tt
 
-returns-2 : tie.Need-returns-2
-returns-2 c = c.ones.ensures.0 ∙ word-length _ _ _ _ _ c.before.before.before.before.before.before.before.before.before.before.requires.0 _ _ _ c.before.before.newest-in.ensures
+returns-2 : tie.Need-returns
+returns-2 c = c.ones.ensures.0 ∙ word-length _ _ _ _ _ c.requires.0 _ _ _ c.newest_in-bits.ensures
 
-pub count-word-spec : {M : Type 1} → statement M
-count-word-spec =
+pub count_word_spec : {M : Type 1} → statement M
+count_word_spec =
     tie.close
     (tie.spec
     mul-if1

@@ -4,44 +4,44 @@ use Rattle.log_replay.proofs.NewestLaws.{offered-now, offered-not}
 use Rattle.log_replay.proofs.words.offer.Statement.{statement}
 use Rattle.log_replay.proofs.words.offer.Tie as tie
 
-mul-if1 : tie.Need-overflow-mul-if1
+mul-if1 : tie.Need-offset_bounds-closers-k
 mul-if1 c = search rules
 
-slice-read-if1 : tie.Need-slice-read-if1
+slice-read-if1 : tie.Need-bounds-closers-k
 slice-read-if1 c = search rules
 
-mul-closers : tie.Need-overflow-mul-closers
+mul-closers : tie.Need-offset_bounds-closers-k-then-closers-k
 mul-closers c = search rules
 
-slice-write-closers : tie.Need-slice-write-closers
+slice-write-closers : tie.Need-bounds-closers-k-then-closers-k
 slice-write-closers c = search rules
 
-mul-table : tie.Need-overflow-mul-table
+mul-table : tie.Need-offset_bounds-table-k
 mul-table c = search rules
 
-slice-write-table : tie.Need-slice-write-table
+slice-write-table : tie.Need-bounds-table-k
 slice-write-table c = search rules
 
 mark-requires : tie.Need-mark-requires
 mark-requires c κs = search rules
 
-same_length : tie.Need-same-length
+same_length : tie.Need-shape_of-closers
 same_length c = search rules
 
-same-length-2 : tie.Need-same-length-2
+same-length-2 : tie.Need-shape_of-table
 same-length-2 c = search rules
 
-same-length-3 : tie.Need-same-length-3
+same-length-3 : tie.Need-shape_of-map
 same-length-3 c = search rules
 
-returns : tie.Need-returns
-returns c = offered-now _ _ _ _ _ c.before.before.before.before.if1.true c.before.before.mark.ensures.0
+returns : tie.Need-returns-then-closers-k
+returns c = offered-now _ _ _ _ _ c.if-closers-k.true c.mark.ensures.0
 
-returns-2 : tie.Need-returns-2
-returns-2 c = offered-not _ _ _ _ c.if1.false
+returns-2 : tie.Need-returns-else-closers-k
+returns-2 c = offered-not _ _ _ _ c.if-closers-k.false
 
-pub offer-spec : {M : Type 1} → statement M
-offer-spec =
+pub offer_spec : {M : Type 1} → statement M
+offer_spec =
     tie.close
     (tie.spec
     mul-if1

@@ -6,5 +6,5 @@ use Rattle.log_replay.proofs.words.place_in_word.Tie as tie
 returns : tie.Need-returns
 returns c = and_mask _ 6
 
-pub place-in-word-spec : {M : Type 1} → statement M
-place-in-word-spec = tie.close (tie.spec returns)
+pub place_in_word_spec : {M : Type 1} → statement M
+place_in_word_spec = tie.close (tie.spec returns)

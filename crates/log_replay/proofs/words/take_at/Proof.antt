@@ -5,43 +5,40 @@ use borrow.Author.Rules.{rules}
 use Rattle.log_replay.proofs.words.take_at.Statement.{statement}
 use Rattle.log_replay.proofs.words.take_at.Tie as tie
 
-word-from-requires : tie.Need-word-from-requires
+word-from-requires : tie.Need-word_from-word-requires
 word-from-requires c κs = search rules
 
-tag-back-requires : tie.Need-tag-back-requires
+tag-back-requires : tie.Need-tag_back-back-requires
 tag-back-requires c κs = search rules
 
-place-in-word-requires : tie.Need-place-in-word-requires
+place-in-word-requires : tie.Need-place_in_word-requires
 place-in-word-requires c κs = search rules
 
-sub-take-entry : tie.Need-overflow-sub-take-entry
+sub-take-entry : tie.Need-overflow_sub-offset
 sub-take-entry c =
-    let w = c.before.before.before.before.before in
-    let p = w.before.before.before.before.before.before.requires in
-    omega (arith, c.before.before.before.before.tag_back.ensures, word-begun _ _ _ _ _ (w.word-from.ensures _ p.6) p.6)
+    let p = c.requires in
+    omega (arith, c.tag_back-back.ensures, word-begun _ _ _ _ _ (c.word_from-word.ensures _ p.6) p.6)
 
-take-entry-requires : tie.Need-take-entry-requires
+take-entry-requires : tie.Need-take_entry-requires
 take-entry-requires c κs = search rules
 
-same_length : tie.Need-same-length
+same_length : tie.Need-shape_of-closers
 same_length c = search rules
 
-same-length-2 : tie.Need-same-length-2
+same-length-2 : tie.Need-shape_of-table
 same-length-2 c = search rules
 
-same-length-3 : tie.Need-same-length-3
+same-length-3 : tie.Need-shape_of-map
 same-length-3 c = search rules
 
 returns : tie.Need-returns
 returns c =
-    let t = c.before.before.before.before.before.before in
-    let w = t.before.before.before.before.before.before in
-    let p = w.before.before.before.before.before.before.requires in
-    word-taken _ _ _ _ _ (w.word-from.ensures _ p.6) p.6 _ _ _ _ _ t.before.place-in-word.ensures
-    t.before.before.before.before.before.tag_back.ensures t.take-entry.ensures
+    let p = c.requires in
+    word-taken _ _ _ _ _ (c.word_from-word.ensures _ p.6) p.6 _ _ _ _ _ c.place_in_word.ensures
+    c.tag_back-back.ensures c.take_entry.ensures
 
-pub take-at-spec : {M : Type 1} → statement M
-take-at-spec =
+pub take_at_spec : {M : Type 1} → statement M
+take_at_spec =
     tie.close
     (tie.spec
     word-from-requires
