@@ -1,10 +1,9 @@
 -- The table's homes hold the last table of the book's list, in every history. Assumes nothing.
-use Prim.Native.Nat.{ℕ, ◌+◌, ◌*◌}
+use Prim.Native.Nat.{ℕ, ◌*◌}
 use mathlib.Core.Path.{◌≡◌, refl, sym, ap, ◌∙◌}
 use mathlib.Core.List.{List, [], ◌∷◌, ◌++◌}
 use mathlib.Core.Option.{Option, none, some}
 use native.Mathlib.Omega.{arith}
-use lib.ListN.{length}
 use Rattle.model.specs.Bytes.{zeros}
 use Rattle.unit_events.specs.Homes.{table_home, table_homes}
 use Rattle.unit_events.specs.Folded.{Filling, Growing}

@@ -9,56 +9,56 @@ use Rattle.unit_bands_table.proofs.RowWalkLaws.{Parted, parted-none, chain-room,
 use Rattle.unit_bands_table.proofs.judging.chained.Statement.{statement}
 use Rattle.unit_bands_table.proofs.judging.chained.Tie as tie
 
-abbrev invariant-loop : tie.invariant-loop
+abbrev invariant-loop : tie.invariant-loop-next
 invariant-loop s next₀ next = (next ≤ 65536) × Covered (rows s) next × Parted (rows s) next
 
-abbrev decreases-loop : tie.decreases-loop
+abbrev decreases-loop : tie.decreases-loop-next
 decreases-loop s next₀ next = 10000 - next
 
-loop-holds : tie.Need-loop-init invariant-loop decreases-loop
+loop-holds : tie.Need-loop-next-init invariant-loop decreases-loop
 loop-holds c =
-    let s = c.before.args.s.now in
+    let s = c.args.s.now in
     (omega arith, covered_none (rows s), parted-none (rows s))
 
-starter-requires : tie.Need-starter-requires invariant-loop decreases-loop
-starter-requires c κs = sound-whole _ c.before.before.before.requires.0
+starter-requires : tie.Need-starter-at-requires invariant-loop decreases-loop
+starter-requires c κs = sound-whole _ c.requires.0
 
-returns : tie.Need-returns invariant-loop decreases-loop
+returns : tie.Need-returns-then-at-s invariant-loop decreases-loop
 returns c =
-    let p = c.before.before.before.before.before.requires in
-    chain-broken _ _ p.0 p.1 c.before.before.before.loop.invariant.2 (omega arith) c.before.starter.ensures c.if1.true
+    let p = c.requires in
+    chain-broken _ _ p.0 p.1 c.loop-next.invariant.2 (omega arith) c.starter-at.ensures c.if-at-s.true
 
-add-two-bytes : tie.Need-overflow-add-two-bytes invariant-loop decreases-loop
+add-two-bytes : tie.Need-overflow_add-at invariant-loop decreases-loop
 add-two-bytes c = omega arith
 
-two-bytes-requires : tie.Need-two-bytes-requires invariant-loop decreases-loop
+two-bytes-requires : tie.Need-two_bytes-next-requires invariant-loop decreases-loop
 two-bytes-requires c κs =
-    omega (arith, chain-room _ _ (sound-whole _ c.before.before.before.before.before.requires.0) c.before.starter.ensures c.if1.false)
+    omega (arith, chain-room _ _ (sound-whole _ c.requires.0) c.starter-at.ensures c.if-at-s.false)
 
-add-next : tie.Need-overflow-add-next invariant-loop decreases-loop
+add-next : tie.Need-overflow_add-next invariant-loop decreases-loop
 add-next c = search rules
 
-loop-less : tie.Need-loop-smaller invariant-loop decreases-loop
+loop-less : tie.Need-loop-next-smaller invariant-loop decreases-loop
 loop-less c =
-    let e = c.before.before.before.before.before.before.requires.0 in
-    omega (arith, chain-further _ _ (sound-whole _ e) c.before.before.starter.ensures c.before.if1.false (sound-fit _ e) c.two_bytes.ensures.0)
+    let e = c.requires.0 in
+    omega (arith, chain-further _ _ (sound-whole _ e) c.starter-at.ensures c.if-at-s.false (sound-fit _ e) c.two_bytes-next.ensures.0)
 
-loop-again : tie.Need-loop-preserved invariant-loop decreases-loop
+loop-again : tie.Need-loop-next-preserved invariant-loop decreases-loop
 loop-again c =
-    let e = c.before.before.before.before.before.before.requires.0 in
-    let l = c.before.before.before.before.loop in
-    let s = c.before.before.starter.ensures in
-    let i = c.before.if1.false in
-    let t = c.two_bytes.ensures.0 in
+    let e = c.requires.0 in
+    let l = c.loop-next in
+    let s = c.starter-at.ensures in
+    let i = c.if-at-s.false in
+    let t = c.two_bytes-next.ensures.0 in
     (omega arith, chain-covered _ _ (sound-whole _ e) s i (sound-fit _ e) t l.invariant.1, chain-parted _ _ (sound-whole _ e) s i (sound-fit _ e) t)
 
-returns-2 : tie.Need-returns-2 invariant-loop decreases-loop
+returns-2 : tie.Need-returns invariant-loop decreases-loop
 returns-2 c =
-    let p = c.before.before.before.requires in
-    chain-whole _ _ p.0 p.1 c.before.loop.invariant.1 (omega arith)
+    let p = c.requires in
+    chain-whole _ _ p.0 p.1 c.loop-next.invariant.1 (omega arith)
 
-pub chained-spec : {M : Type 1} → statement M
-chained-spec =
+pub chained_spec : {M : Type 1} → statement M
+chained_spec =
     tie.close
     (tie.spec
     invariant-loop

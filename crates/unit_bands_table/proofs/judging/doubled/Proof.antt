@@ -12,43 +12,43 @@ use Rattle.unit_bands_table.proofs.LoopLaws.{twice-over, twice-ended}
 use Rattle.unit_bands_table.proofs.judging.doubled.Statement.{statement}
 use Rattle.unit_bands_table.proofs.judging.doubled.Tie as tie
 
-abbrev invariant-loop : tie.invariant-loop
+abbrev invariant-loop : tie.invariant-loop-at
 invariant-loop s lowest₀ at₀ lowest at = (at ≤ length s) × (at % 5 ≡ 0) × (lowest ≤ 10000) × (min lowest (twice (rest s at)) ≡ twice (rows s))
 
-abbrev decreases-loop : tie.decreases-loop
+abbrev decreases-loop : tie.decreases-loop-at
 decreases-loop s lowest₀ at₀ lowest at = length s - at
 
-loop-holds : tie.Need-loop-init invariant-loop decreases-loop
+loop-holds : tie.Need-loop-at-init invariant-loop decreases-loop
 loop-holds c =
-    let s = c.before.args.s.now in
+    let s = c.args.s.now in
     (omega arith, refl, omega arith, omega (arith, ap twice (rest_all s), twice-high (rows s)))
 
 shared-requires : tie.Need-shared-requires invariant-loop decreases-loop
-shared-requires c κs = (c.before.before.before.requires, search rules, search rules)
+shared-requires c κs = (c.requires, search rules, search rules)
 
-lesser-requires : tie.Need-lesser-requires invariant-loop decreases-loop
+lesser-requires : tie.Need-lesser-lowest-requires invariant-loop decreases-loop
 lesser-requires c κs = search rules
 
-add_at : tie.Need-overflow-add-at invariant-loop decreases-loop
+add_at : tie.Need-overflow_add-at invariant-loop decreases-loop
 add_at c = search rules
 
-loop-less : tie.Need-loop-smaller invariant-loop decreases-loop
+loop-less : tie.Need-loop-at-smaller invariant-loop decreases-loop
 loop-less c = search rules
 
-loop-again : tie.Need-loop-preserved invariant-loop decreases-loop
+loop-again : tie.Need-loop-at-preserved invariant-loop decreases-loop
 loop-again c =
-    let s = c.before.before.before.before.before.args.s.now in
-    let l = c.before.before.before.loop in
+    let s = c.args.s.now in
+    let l = c.loop-at in
     (omega arith, omega arith, omega arith, omega (arith, twice-over s l.at (omega arith)))
 
 returns : tie.Need-returns invariant-loop decreases-loop
 returns c =
-    let s = c.before.before.before.args.s.now in
-    let l = c.before.loop in
+    let s = c.args.s.now in
+    let l = c.loop-at in
     omega (arith, twice-ended s l.at (omega arith), doubled-twice (rows s))
 
-pub doubled-spec : {M : Type 1} → statement M
-doubled-spec =
+pub doubled_spec : {M : Type 1} → statement M
+doubled_spec =
     tie.close
     (tie.spec
     invariant-loop

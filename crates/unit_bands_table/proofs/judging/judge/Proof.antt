@@ -1,6 +1,5 @@
 -- `unit_bands_table::judging::judge` meets its contract. Assumes nothing.
 use mathlib.Core.Path.{sym, ◌∙◌}
-use borrow.Author.Tests.{not-true, not-false}
 use borrow.Author.Rules.{rules}
 use Rattle.unit_bands_table.proofs.RowLaws.{sound-whole}
 use Rattle.unit_bands_table.proofs.JudgeLaws.{judged-unsound, judged-gap, judged-one, judged-double}
@@ -10,36 +9,36 @@ use Rattle.unit_bands_table.proofs.judging.judge.Tie as tie
 sound-requires : tie.Need-sound-requires
 sound-requires c κs = search rules
 
-returns : tie.Need-returns
-returns c = sym (judged-unsound _ (sym c.before.sound.ensures ∙ not-true _ c.if1.true))
+returns : tie.Need-returns-then-not-sound
+returns c = sym (judged-unsound _ (sym c.sound.ensures ∙ c.if-not-sound.true))
 
-uncovered-requires : tie.Need-uncovered-requires
-uncovered-requires c κs = sym c.before.sound.ensures ∙ not-false _ c.if1.false
+uncovered-requires : tie.Need-uncovered-gap-requires
+uncovered-requires c κs = sym c.sound.ensures ∙ c.if-not-sound.false
 
-returns-2 : tie.Need-returns-2
+returns-2 : tie.Need-returns-then-gap-lt-DEPTHS
 returns-2 c =
-    let e = sym c.before.before.before.sound.ensures ∙ not-false _ c.before.before.if1.false in
-    sym (judged-gap _ e c.before.uncovered.ensures c.if2.true)
+    let e = sym c.sound.ensures ∙ c.if-not-sound.false in
+    sym (judged-gap _ e c.uncovered-gap.ensures c.if-gap-lt-DEPTHS.true)
 
 width-requires : tie.Need-width-requires
-width-requires c κs = sym c.before.before.before.sound.ensures ∙ not-false _ c.before.before.if1.false
+width-requires c κs = sym c.sound.ensures ∙ c.if-not-sound.false
 
-returns-3 : tie.Need-returns-3
+returns-3 : tie.Need-returns-then-width-eq-DEPTHS
 returns-3 c =
-    let e = sym c.before.before.before.before.before.sound.ensures ∙ not-false _ c.before.before.before.before.if1.false in
-    sym (judged-one _ e c.before.before.before.uncovered.ensures c.before.before.if2.false c.before.width.ensures c.if3.true)
+    let e = sym c.sound.ensures ∙ c.if-not-sound.false in
+    sym (judged-one _ e c.uncovered-gap.ensures c.if-gap-lt-DEPTHS.false c.width.ensures c.if-width-eq-DEPTHS.true)
 
 doubled-requires : tie.Need-doubled-requires
-doubled-requires c κs = sound-whole _ (sym c.before.before.before.before.before.sound.ensures ∙ not-false _ c.before.before.before.before.if1.false)
+doubled-requires c κs = sound-whole _ (sym c.sound.ensures ∙ c.if-not-sound.false)
 
-returns-4 : tie.Need-returns-4
+returns-4 : tie.Need-returns
 returns-4 c =
-    let e = sym c.before.before.before.before.before.before.sound.ensures ∙ not-false _ c.before.before.before.before.before.if1.false in
-    let w = c.before.before.width.ensures in
-    sym (judged-double _ e c.before.before.before.before.uncovered.ensures c.before.before.before.if2.false w c.before.if3.false c.doubled.ensures)
+    let e = sym c.sound.ensures ∙ c.if-not-sound.false in
+    let w = c.width.ensures in
+    sym (judged-double _ e c.uncovered-gap.ensures c.if-gap-lt-DEPTHS.false w c.if-width-eq-DEPTHS.false c.doubled.ensures)
 
-pub judge-spec : {M : Type 1} → statement M
-judge-spec =
+pub judge_spec : {M : Type 1} → statement M
+judge_spec =
     tie.close
     (tie.spec
     sound-requires

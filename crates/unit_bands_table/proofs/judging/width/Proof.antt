@@ -13,63 +13,63 @@ use Rattle.unit_bands_table.proofs.LoopLaws.{width-over, width-ended, fits-order
 use Rattle.unit_bands_table.proofs.judging.width.Statement.{statement}
 use Rattle.unit_bands_table.proofs.judging.width.Tie as tie
 
-abbrev invariant-loop : tie.invariant-loop
+abbrev invariant-loop : tie.invariant-loop-at
 invariant-loop s sum₀ at₀ sum at = (at ≤ length s) × (at % 5 ≡ 0) × (length s ≤ 160) × (length s % 5 ≡ 0) × (sum ≤ 65536 * at)
     × (all_fit (rest s at) ≡ true) × (sum + width (rest s at) ≡ width (rows s))
 
-abbrev decreases-loop : tie.decreases-loop
+abbrev decreases-loop : tie.decreases-loop-at
 decreases-loop s sum₀ at₀ sum at = length s - at
 
-loop-holds : tie.Need-loop-init invariant-loop decreases-loop
+loop-holds : tie.Need-loop-at-init invariant-loop decreases-loop
 loop-holds c =
-    let s = c.before.args.s.now in
-    let e = c.before.requires in
+    let s = c.args.s.now in
+    let e = c.requires in
     (omega arith, refl, sound-short s e, sound-whole s e, omega arith, fits_all s (sound-fit s e), omega (arith, ap width (rest_all s)))
 
-add-two-bytes : tie.Need-overflow-add-two-bytes invariant-loop decreases-loop
+add-two-bytes : tie.Need-overflow_add-at invariant-loop decreases-loop
 add-two-bytes c = search rules
 
-two-bytes-requires : tie.Need-two-bytes-requires invariant-loop decreases-loop
+two-bytes-requires : tie.Need-two_bytes-requires invariant-loop decreases-loop
 two-bytes-requires c κs = search rules
 
-add-sum : tie.Need-overflow-add-sum invariant-loop decreases-loop
+add-sum : tie.Need-overflow_add-sum invariant-loop decreases-loop
 add-sum c = search rules
 
-two-bytes-requires-2 : tie.Need-two-bytes-requires-2 invariant-loop decreases-loop
+two-bytes-requires-2 : tie.Need-two_bytes-requires-in-loop-at invariant-loop decreases-loop
 two-bytes-requires-2 c κs = search rules
 
-sub-sum : tie.Need-overflow-sub-sum invariant-loop decreases-loop
+sub-sum : tie.Need-overflow_sub-sum invariant-loop decreases-loop
 sub-sum c =
-    let s = c.before.before.before.before.before.args.s.now in
-    let l = c.before.before.before.loop in
-    omega (arith, fits-ordered s l.at (omega arith) l.invariant.5 c.two-bytes2.ensures.0 c.before.two_bytes.ensures.0)
+    let s = c.args.s.now in
+    let l = c.loop-at in
+    omega (arith, fits-ordered s l.at (omega arith) l.invariant.5 c.two_bytes-in-loop-at.ensures.0 c.two_bytes.ensures.0)
 
-add-sum-2 : tie.Need-overflow-add-sum-2 invariant-loop decreases-loop
+add-sum-2 : tie.Need-overflow_add-sum-in-loop-at invariant-loop decreases-loop
 add-sum-2 c = search rules
 
-add_at : tie.Need-overflow-add-at invariant-loop decreases-loop
+add_at : tie.Need-overflow_add-at-in-loop-at invariant-loop decreases-loop
 add_at c = search rules
 
-loop-less : tie.Need-loop-smaller invariant-loop decreases-loop
+loop-less : tie.Need-loop-at-smaller invariant-loop decreases-loop
 loop-less c = search rules
 
-loop-again : tie.Need-loop-preserved invariant-loop decreases-loop
+loop-again : tie.Need-loop-at-preserved invariant-loop decreases-loop
 loop-again c =
-    let s = c.before.before.before.before.before.args.s.now in
-    let l = c.before.before.before.loop in (
+    let s = c.args.s.now in
+    let l = c.loop-at in (
       omega arith,
       omega arith,
       l.invariant.2,
       l.invariant.3,
       omega arith,
       fits_next s l.at (omega arith) l.invariant.5,
-      omega (arith, width-over s l.at (omega arith) c.two-bytes2.ensures.0 c.before.two_bytes.ensures.0),
+      omega (arith, width-over s l.at (omega arith) c.two_bytes-in-loop-at.ensures.0 c.two_bytes.ensures.0),
     )
 
 returns : tie.Need-returns invariant-loop decreases-loop
 returns c =
-    let s = c.before.before.before.args.s.now in
-    let l = c.before.loop in
+    let s = c.args.s.now in
+    let l = c.loop-at in
     omega (arith, width-ended s l.at (omega arith))
 
 pub width_spec : {M : Type 1} → statement M

@@ -5,35 +5,35 @@ use Rattle.unit_bands_table.proofs.TableLaws.{looked-none, looked-few, looked-wh
 use Rattle.unit_bands_table.proofs.packed.look_up.Statement.{statement}
 use Rattle.unit_bands_table.proofs.packed.look_up.Tie as tie
 
-judge-packed-requires : tie.Need-judge-packed-requires
+judge-packed-requires : tie.Need-judge_packed-count-requires
 judge-packed-requires c κs = search rules
 
-returns : tie.Need-returns
-returns c = looked-none _ _ c.before.judge-packed.ensures c.if1.true
+returns : tie.Need-returns-then-count-eq0
+returns c = looked-none _ _ c.judge_packed-count.ensures c.if-count-eq0.true
 
-mul-find : tie.Need-overflow-mul-find
-mul-find c = omega (arith, looked-few c.before.before.before.args.packed.now c.before.before.before.args.mm c.before.judge-packed.ensures c.if1.false)
+mul-find : tie.Need-overflow_mul-count
+mul-find c = omega (arith, looked-few c.args.packed.now c.args.mm c.judge_packed-count.ensures c.if-count-eq0.false)
 
-add-find : tie.Need-overflow-add-find
-add-find c = omega (arith, looked-few c.before.before.before.args.packed.now c.before.before.before.args.mm c.before.judge-packed.ensures c.if1.false)
+add-find : tie.Need-overflow_add-count
+add-find c = omega (arith, looked-few c.args.packed.now c.args.mm c.judge_packed-count.ensures c.if-count-eq0.false)
 
-sub-find : tie.Need-overflow-sub-find
+sub-find : tie.Need-slice_bounds-find-count
 sub-find c = search rules
 
-part-find-start : tie.Need-slice-bounds-find-start
+part-find-start : tie.Need-slice_bounds-find-start
 part-find-start c = search rules
 
-part-find-end : tie.Need-slice-bounds-find-end
-part-find-end c = omega (arith, looked-few c.before.before.before.args.packed.now c.before.before.before.args.mm c.before.judge-packed.ensures c.if1.false)
+part-find-end : tie.Need-slice_bounds-find-end
+part-find-end c = omega (arith, looked-few c.args.packed.now c.args.mm c.judge_packed-count.ensures c.if-count-eq0.false)
 
-find-requires : tie.Need-find-requires
-find-requires c κs = looked-whole c.before.before.before.before.args.packed.now c.before.before.before.before.args.mm c.before.before.judge-packed.ensures c.before.if1.false
+find-requires : tie.Need-find-row-requires
+find-requires c κs = looked-whole c.args.packed.now c.args.mm c.judge_packed-count.ensures c.if-count-eq0.false
 
-returns-2 : tie.Need-returns-2
-returns-2 c = looked-row _ _ c.before.before.before.judge-packed.ensures c.before.before.if1.false c.find.ensures
+returns-2 : tie.Need-returns
+returns-2 c = looked-row _ _ c.judge_packed-count.ensures c.if-count-eq0.false c.find-row.ensures
 
-pub look-up-spec : {M : Type 1} → statement M
-look-up-spec =
+pub look_up_spec : {M : Type 1} → statement M
+look_up_spec =
     tie.close
     (tie.spec
     judge-packed-requires

@@ -7,34 +7,34 @@ use Rattle.unit_bands_table.proofs.LoopLaws.{place-blank, place-row, row_read}
 use Rattle.unit_bands_table.proofs.rows.find.Statement.{statement}
 use Rattle.unit_bands_table.proofs.rows.find.Tie as tie
 
-holder-requires : tie.Need-holder-requires
+holder-requires : tie.Need-holder-at-requires
 holder-requires c κs = search rules
 
-returns : tie.Need-returns
-returns c = sym (place-blank _ _ c.before.before.before.requires c.before.holder.ensures c.if1.true)
+returns : tie.Need-returns-then-at-s
+returns c = sym (place-blank _ _ c.requires c.holder-at.ensures c.if-at-s.true)
 
-two-bytes-requires : tie.Need-two-bytes-requires
+two-bytes-requires : tie.Need-two_bytes-requires
 two-bytes-requires c κs = search rules
 
-add-two-bytes : tie.Need-overflow-add-two-bytes
+add-two-bytes : tie.Need-overflow_add-at
 add-two-bytes c = search rules
 
-two-bytes-requires-2 : tie.Need-two-bytes-requires-2
+two-bytes-requires-2 : tie.Need-two_bytes-requires-2
 two-bytes-requires-2 c κs = search rules
 
-add-t8 : tie.Need-overflow-add-t8
+add-t8 : tie.Need-overflow_add-result
 add-t8 c = search rules
 
-shared-slice-read-t10 : tie.Need-shared-slice-read-t10
+shared-slice-read-t10 : tie.Need-bounds-s-at
 shared-slice-read-t10 c = search rules
 
-cast-t11 : tie.Need-overflow-cast-t11
-cast-t11 c = omega (arith, c.shared-slice-known2.given (c.before.before.before.before.holder.result + 4))
+cast-t11 : tie.Need-overflow_cast-result
+cast-t11 c = omega (arith, c.shared_slice_known-2-1.given (c.holder-at.result + 4))
 
-returns-2 : tie.Need-returns-2
+returns-2 : tie.Need-returns
 returns-2 c =
-    row_read _ _ c.before.before.two_bytes.ensures.0 c.before.two-bytes2.ensures.0
-    ∙ sym (place-row _ _ c.before.before.before.before.before.before.requires c.before.before.before.before.holder.ensures c.before.before.before.if1.false)
+    row_read _ _ c.two_bytes.ensures.0 c.two_bytes-2.ensures.0
+    ∙ sym (place-row _ _ c.requires c.holder-at.ensures c.if-at-s.false)
 
 pub find_spec : {M : Type 1} → statement M
 find_spec =

@@ -5,29 +5,29 @@ use Rattle.unit_bands_table.proofs.LoopLaws.{unordered, too-deep, pumps-left}
 use Rattle.unit_bands_table.proofs.rows.fit.Statement.{statement}
 use Rattle.unit_bands_table.proofs.rows.fit.Tie as tie
 
-add-two-bytes : tie.Need-overflow-add-two-bytes
+add-two-bytes : tie.Need-overflow_add-at
 add-two-bytes c = search rules
 
-two-bytes-requires : tie.Need-two-bytes-requires
+two-bytes-requires : tie.Need-two_bytes-to-requires
 two-bytes-requires c κs = search rules
 
-two-bytes-requires-2 : tie.Need-two-bytes-requires-2
+two-bytes-requires-2 : tie.Need-two_bytes-requires
 two-bytes-requires-2 c κs = search rules
 
-returns : tie.Need-returns
-returns c = sym (unordered _ _ c.before.two-bytes2.ensures.0 c.before.before.two_bytes.ensures.0 c.if1.true)
+returns : tie.Need-returns-then-two_bytes-to
+returns c = sym (unordered _ _ c.two_bytes.ensures.0 c.two_bytes-to.ensures.0 c.if-two_bytes-to.true)
 
-returns-2 : tie.Need-returns-2
-returns-2 c = sym (too-deep _ _ c.before.before.two-bytes2.ensures.0 c.before.before.before.two_bytes.ensures.0 c.before.if1.false c.if2.true)
+returns-2 : tie.Need-returns-then-to-ge-DEPTHS
+returns-2 c = sym (too-deep _ _ c.two_bytes.ensures.0 c.two_bytes-to.ensures.0 c.if-two_bytes-to.false c.if-to-ge-DEPTHS.true)
 
-add-result : tie.Need-overflow-add-result
+add-result : tie.Need-overflow_add-result
 add-result c = search rules
 
-shared-slice-read-result : tie.Need-shared-slice-read-result
+shared-slice-read-result : tie.Need-bounds-s-at
 shared-slice-read-result c = search rules
 
-returns-3 : tie.Need-returns-3
-returns-3 c = pumps-left _ _ c.before.before.before.two-bytes2.ensures.0 c.before.before.before.before.two_bytes.ensures.0 c.before.before.if1.false c.before.if2.false
+returns-3 : tie.Need-returns
+returns-3 c = pumps-left _ _ c.two_bytes.ensures.0 c.two_bytes-to.ensures.0 c.if-two_bytes-to.false c.if-to-ge-DEPTHS.false
 
 pub fit_spec : {M : Type 1} → statement M
 fit_spec =

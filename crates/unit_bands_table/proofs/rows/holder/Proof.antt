@@ -10,44 +10,44 @@ use Rattle.unit_bands_table.proofs.CountLaws.{place_here, place-later, place-end
 use Rattle.unit_bands_table.proofs.rows.holder.Statement.{statement}
 use Rattle.unit_bands_table.proofs.rows.holder.Tie as tie
 
-abbrev invariant-loop : tie.invariant-loop
+abbrev invariant-loop : tie.invariant-loop-at
 invariant-loop s mm at₀ at = (at ≤ length s) × (at % 5 ≡ 0) × (at + 5 * place mm (rest s at) ≡ 5 * place mm (rows s))
 
-abbrev decreases-loop : tie.decreases-loop
+abbrev decreases-loop : tie.decreases-loop-at
 decreases-loop s mm at₀ at = length s - at
 
-loop-holds : tie.Need-loop-init invariant-loop decreases-loop
-loop-holds c = (omega arith, refl, omega (arith, place-all c.before.args.mm c.before.args.s.now))
+loop-holds : tie.Need-loop-at-init invariant-loop decreases-loop
+loop-holds c = (omega arith, refl, omega (arith, place-all c.args.mm c.args.s.now))
 
 holds-requires : tie.Need-holds-requires invariant-loop decreases-loop
 holds-requires c κs = search rules
 
-returns : tie.Need-returns invariant-loop decreases-loop
+returns : tie.Need-returns-then-holds invariant-loop decreases-loop
 returns c =
-    let a = c.before.before.before.before.before.args in
-    let l = c.before.before.before.loop in
-    omega (arith, place_here a.mm a.s.now l.at (omega arith) (sym c.before.holds.ensures ∙ c.if1.true))
+    let a = c.args in
+    let l = c.loop-at in
+    omega (arith, place_here a.mm a.s.now l.at (omega arith) (sym c.holds.ensures ∙ c.if-holds.true))
 
-add_at : tie.Need-overflow-add-at invariant-loop decreases-loop
+add_at : tie.Need-overflow_add-at invariant-loop decreases-loop
 add_at c = search rules
 
-loop-less : tie.Need-loop-smaller invariant-loop decreases-loop
+loop-less : tie.Need-loop-at-smaller invariant-loop decreases-loop
 loop-less c = search rules
 
-loop-again : tie.Need-loop-preserved invariant-loop decreases-loop
+loop-again : tie.Need-loop-at-preserved invariant-loop decreases-loop
 loop-again c =
-    let a = c.before.before.before.before.before.args in
-    let l = c.before.before.before.loop in
-    (omega arith, omega arith, omega (arith, place-later a.mm a.s.now l.at (omega arith) (sym c.before.holds.ensures ∙ c.if1.false)))
+    let a = c.args in
+    let l = c.loop-at in
+    (omega arith, omega arith, omega (arith, place-later a.mm a.s.now l.at (omega arith) (sym c.holds.ensures ∙ c.if-holds.false)))
 
-returns-2 : tie.Need-returns-2 invariant-loop decreases-loop
+returns-2 : tie.Need-returns invariant-loop decreases-loop
 returns-2 c =
-    let a = c.before.before.before.args in
-    let l = c.before.loop in
+    let a = c.args in
+    let l = c.loop-at in
     omega (arith, place-ended a.mm a.s.now l.at (omega arith))
 
-pub holder-spec : {M : Type 1} → statement M
-holder-spec =
+pub holder_spec : {M : Type 1} → statement M
+holder_spec =
     tie.close
     (tie.spec
     invariant-loop

@@ -5,21 +5,21 @@ use Rattle.unit_bands_table.proofs.LoopLaws.{above-it, end-left}
 use Rattle.unit_bands_table.proofs.rows.holds.Statement.{statement}
 use Rattle.unit_bands_table.proofs.rows.holds.Tie as tie
 
-two-bytes-requires : tie.Need-two-bytes-requires
+two-bytes-requires : tie.Need-two_bytes-requires
 two-bytes-requires c κs = search rules
 
-returns : tie.Need-returns
-returns c = sym (above-it _ _ _ c.before.two_bytes.ensures.0 c.if1.true)
+returns : tie.Need-returns-then-mm-two_bytes
+returns c = sym (above-it _ _ _ c.two_bytes.ensures.0 c.if-mm-two_bytes.true)
 
-add-two-bytes : tie.Need-overflow-add-two-bytes
+add-two-bytes : tie.Need-overflow_add-at
 add-two-bytes c = search rules
 
-two-bytes-requires-2 : tie.Need-two-bytes-requires-2
+two-bytes-requires-2 : tie.Need-two_bytes-requires-2
 two-bytes-requires-2 c κs = search rules
 
-returns-2 : tie.Need-returns-2
-returns-2 c = end-left _ _ _ c.before.before.two_bytes.ensures.0 c.two-bytes2.ensures.0 c.before.if1.false
+returns-2 : tie.Need-returns
+returns-2 c = end-left _ _ _ c.two_bytes.ensures.0 c.two_bytes-2.ensures.0 c.if-mm-two_bytes.false
 
-pub holds-spec : {M : Type 1} → statement M
-holds-spec =
+pub holds_spec : {M : Type 1} → statement M
+holds_spec =
     tie.close (tie.spec two-bytes-requires returns add-two-bytes two-bytes-requires-2 returns-2)

@@ -10,47 +10,47 @@ use Rattle.unit_bands_table.proofs.RowWalkLaws.{starting-here, starting-later, s
 use Rattle.unit_bands_table.proofs.rows.starter.Statement.{statement}
 use Rattle.unit_bands_table.proofs.rows.starter.Tie as tie
 
-abbrev invariant-loop : tie.invariant-loop
+abbrev invariant-loop : tie.invariant-loop-at
 invariant-loop s mm at₀ at = (at ≤ length s) × (at % 5 ≡ 0) × (at + 5 * starting mm (rest s at) ≡ 5 * starting mm (rows s))
 
-abbrev decreases-loop : tie.decreases-loop
+abbrev decreases-loop : tie.decreases-loop-at
 decreases-loop s mm at₀ at = length s - at
 
-loop-holds : tie.Need-loop-init invariant-loop decreases-loop
-loop-holds c = (omega arith, refl, omega (arith, starting-all c.before.args.mm c.before.args.s.now))
+loop-holds : tie.Need-loop-at-init invariant-loop decreases-loop
+loop-holds c = (omega arith, refl, omega (arith, starting-all c.args.mm c.args.s.now))
 
-two-bytes-requires : tie.Need-two-bytes-requires invariant-loop decreases-loop
+two-bytes-requires : tie.Need-two_bytes-requires invariant-loop decreases-loop
 two-bytes-requires c κs = omega arith
 
-returns : tie.Need-returns invariant-loop decreases-loop
+returns : tie.Need-returns-then-two_bytes-mm invariant-loop decreases-loop
 returns c =
-    let a = c.before.before.before.before.before.args in
-    let l = c.before.before.before.loop in
-    omega (arith, starting-here a.mm a.s.now l.at (omega arith) c.before.two_bytes.ensures.0 c.if1.true)
+    let a = c.args in
+    let l = c.loop-at in
+    omega (arith, starting-here a.mm a.s.now l.at (omega arith) c.two_bytes.ensures.0 c.if-two_bytes-mm.true)
 
-add_at : tie.Need-overflow-add-at invariant-loop decreases-loop
+add_at : tie.Need-overflow_add-at invariant-loop decreases-loop
 add_at c = search rules
 
-loop-less : tie.Need-loop-smaller invariant-loop decreases-loop
+loop-less : tie.Need-loop-at-smaller invariant-loop decreases-loop
 loop-less c = search rules
 
-loop-again : tie.Need-loop-preserved invariant-loop decreases-loop
+loop-again : tie.Need-loop-at-preserved invariant-loop decreases-loop
 loop-again c =
-    let a = c.before.before.before.before.before.args in
-    let l = c.before.before.before.loop in (
+    let a = c.args in
+    let l = c.loop-at in (
       omega arith,
       omega arith,
-      omega (arith, starting-later a.mm a.s.now l.at (omega arith) c.before.two_bytes.ensures.0 c.if1.false),
+      omega (arith, starting-later a.mm a.s.now l.at (omega arith) c.two_bytes.ensures.0 c.if-two_bytes-mm.false),
     )
 
-returns-2 : tie.Need-returns-2 invariant-loop decreases-loop
+returns-2 : tie.Need-returns invariant-loop decreases-loop
 returns-2 c =
-    let a = c.before.before.before.args in
-    let l = c.before.loop in
+    let a = c.args in
+    let l = c.loop-at in
     omega (arith, starting-ended a.mm a.s.now l.at (omega arith))
 
-pub starter-spec : {M : Type 1} → statement M
-starter-spec =
+pub starter_spec : {M : Type 1} → statement M
+starter_spec =
     tie.close
     (tie.spec
     invariant-loop
