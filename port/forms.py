@@ -220,6 +220,14 @@ class Return:
 
 
 @dataclass(frozen=True)
+class Lend:
+    """A local points from here on to an array that is there from the start and never written; the reader makes a local array of it."""
+    local: int
+    type: Array
+    value: object
+
+
+@dataclass(frozen=True)
 class Store:
     """Writes the low `size` bytes of a number of 64 bits at a pointer, lowest byte first."""
     size: int

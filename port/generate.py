@@ -1,10 +1,10 @@
 #!/usr/bin/env python3
 """Makes one portable C99 file of the proved program.
 
-    python3 port/generate.py --rlib target/rlib --source crates --export kagutin --header kagutin.h \\
+    python3 port/generate.py --rlib crates --source crates --export kagutin --header kagutin.h \\
         --result call_ask::Reply=kagutin_reply --out dist/kagutin.c
 
-The functions of the exported crates that are marked `#[no_mangle] pub extern "C"` get external linkage under their own names; all
+The functions of the exported crates that are marked `#[unsafe(no_mangle)] pub extern "C"` get external linkage under their own names; all
 that they reach becomes static, but for the marked functions of imported crates (--import), which are called as another C file
 has them. A form that is not known stops it with the function's name and the form, and nothing is written.
 """
@@ -142,7 +142,7 @@ class Generator:
 
 def main():
     parser = argparse.ArgumentParser(description='Makes one portable C99 file of the proved program.')
-    parser.add_argument('--rlib', required=True, help='folder of the proved crates')
+    parser.add_argument('--rlib', required=True, help='folder of the crates, with what the prover has built of each')
     parser.add_argument('--source', required=True, help='folder of the crates, for exported names and comments')
     parser.add_argument('--export', required=True, action='append', help='crate whose extern "C" functions are exported; may be given again')
     parser.add_argument('--import', default=[], action='append', dest='imports',

@@ -1,10 +1,14 @@
-"""Reads the program of each proved crate: target/rlib/NAME.rlib/toolchain/mir.json, as the prover's build leaves it."""
+"""Reads the program of each proved crate: crates/NAME/out/rlib/NAME.rlib/toolchain/mir.json, as the prover's build leaves it.
+
+Its types and functions have no parameters but lifetimes, which the machine does not read. Bytes that stand in the program (`b"GW"`) are lent by
+`LendStatic`, in memory that is there from the start and that nothing writes: here a local array, filled where they are lent."""
 import json
 import os
+from dataclasses import replace
 
 from forms import (BOOL, UNIT, Address, Aggregate, Array, Assign, Binary, Block, Bool, Call, Cast, Copy, Deref, Exit, Field,
-                   Fields, Function, If, Int, IntType, Loop, Named, Offset, Place, RawPointer, Ref, Repeat, Return, Slice, Stop, Switch,
-                   Unary, Unit, Variant, Variants, derefs, statements)
+                   Fields, Function, If, Int, IntType, Lend, Loop, Named, Offset, Place, RawPointer, Ref, Repeat, Return, Slice, Stop, Switch,
+                   Unary, Unit, Variant, Variants, derefs, statements, target_of, with_bodies, with_operands, with_values)
 
 WITH_SIGN = ('Add', 'Sub', 'Mul', 'Div', 'Rem', 'Shr', 'Lt', 'Le')
 SIGNLESS = ('And', 'Or', 'Xor', 'Shl', 'Eq', 'Ne')
@@ -34,8 +38,8 @@ def read_type(form):
         return Ref(content[1] == 'Mut', read_type(content[2]))
     if kind == 'Array' and tagged(content[1])[0] == 'Lit':
         return Array(read_type(content[0]), content[1]['Lit'])
-    if kind == 'Named':
-        return Named(content['name'])
+    if kind == 'Named' and content[1] == []:
+        return Named(content[0]['name'])
     if kind == 'Struct' and content[0] == '&[]':
         pointer, length = map(read_type, content[1])
         if isinstance(pointer, Ref) and length == IntType(64):
@@ -104,8 +108,8 @@ def read_value(form):
         return Address(read_place(content))
     if kind == 'Aggregate':
         return Aggregate(tuple(map(read_operand, content)))
-    if kind == 'Repeat':
-        return Repeat(read_operand(content[0]), content[1])
+    if kind == 'Repeat' and tagged(content[1])[0] == 'Lit':
+        return Repeat(read_operand(content[0]), content[1]['Lit'])
     raise unknown('value', form)
 
 
@@ -124,8 +128,10 @@ def read_body(tokens):
         return ({'Block': Block, 'Loop': Loop}[kind](read_body(tokens)),)
     if kind == 'Assign':
         return (Assign(read_place(content[0]), read_value(content[1])),)
-    if kind == 'Call' and tagged(content[0])[0] == 'Direct':
-        return (Call(content[0]['Direct'], tuple(map(read_operand, content[1])), read_place(content[2])),)
+    if kind == 'Call' and tagged(content[0])[0] == 'Fn' and content[0]['Fn'][1] == {'types': [], 'dicts': []}:
+        return (Call(content[0]['Fn'][0], tuple(map(read_operand, content[1])), read_place(content[2])),)
+    if kind == 'LendStatic':
+        return (read_lent(*content),)
     if kind == 'If':
         then = read_body(tokens)
         return (If(read_operand(content), then, read_body(tokens)),)
@@ -139,7 +145,74 @@ def read_body(tokens):
     raise unknown('statement', {kind: content})
 
 
-def read_function(name, form):
+def read_lent(place, t, constant):
+    """Bytes lent, as the array that holds them; `with_arrays` gives it a local."""
+    t, (kind, content) = read_type(t), tagged(constant)
+    if kind == 'Ints':
+        value = Aggregate(tuple(Int(content['width'], number) for number in content['values']))
+        width, count = content['width'], len(value.parts)
+    elif kind == 'Repeat' and tagged(content[0])[0] == 'Int':
+        value = Repeat(read_operand(content[0]), content[1])
+        width, count = value.item.width, value.count
+    else:
+        raise unknown('constant', constant)
+    if place['steps'] or t != Array(IntType(width), count):
+        raise Stop(f'a constant of {width} bits, {count} times, lent as {t}')
+    return Lend(place['local'], t, value)
+
+
+def with_arrays(params, types, in_memory, body):
+    """The locals that a constant is lent to, as arrays in memory that are filled at the beginning of the body; a place behind such a pointer is in the
+    array. They are numbered before the first local that is no number, as the constants of all calls were when these files were first made."""
+    lent = {statement.local: statement for statement in statements(body) if isinstance(statement, Lend)}
+    if not lent:
+        return types, in_memory, body
+    for local, statement in lent.items():
+        if types[local] != Ref(False, statement.type) or local in in_memory or local <= params:
+            raise Stop(f'a constant lent to local {local}')
+    first = next(i for i, t in enumerate(types) if i > params and not isinstance(t, IntType))
+    rest = [i for i in range(first, len(types)) if i not in lent]
+    order = list(range(first)) + sorted(lent) + rest
+    new = {old: i for i, old in enumerate(order)}
+
+    def moved(place):
+        return Place(new[place.base], place.steps)
+
+    def change(value):
+        if not isinstance(value, (Copy, Address)):
+            return with_operands(value, change)
+        if value.place.base not in lent:
+            return type(value)(moved(value.place))
+        if not isinstance(value, Address) or value.place.steps != (Deref(lent[value.place.base].type.item),):
+            raise Stop(f'a constant in local {value.place.base} not reached by its first item')
+        return Address(Place(new[value.place.base]))
+
+    def treat(statement):
+        to = target_of(statement)
+        if to and to.base in lent:
+            raise Stop(f'local {to.base}, which a constant is lent to, is written')
+        if to and any(isinstance(step, Deref) and not isinstance(step.target, IntType) for step in to.steps):
+            raise Stop('memory other than numbers written beside a lent constant')
+        statement = with_bodies(with_values(statement, change), treat_all)
+        return replace(statement, place=moved(to)) if to else statement
+
+    def treat_all(body):
+        return tuple(treat(statement) for statement in body if not isinstance(statement, Lend))
+    filled = tuple(Assign(Place(new[local]), lent[local].value) for local in sorted(lent))
+    types = [lent[old].type if old in lent else types[old] for old in order]
+    return types, {new[i] for i in in_memory | set(lent)}, filled + treat_all(body)
+
+
+def holds_pointer(t, shapes):
+    """Whether a value of the type may hold a pointer."""
+    if isinstance(t, Named):
+        shape = shapes[t.name]
+        variants = (shape.types,) if isinstance(shape, Fields) else shape.variants
+        return any(holds_pointer(u, shapes) for variant in variants for u in variant)
+    return holds_pointer(t.item, shapes) if isinstance(t, Array) else isinstance(t, (Ref, Slice, RawPointer))
+
+
+def read_function(name, form, shapes):
     tokens = iter(form['body'])
     body = read_body(tokens)
     if next(tokens, None) is not None:
@@ -147,13 +220,21 @@ def read_function(name, form):
     homes = [local['home'] for local in form['locals']]
     if set(homes) - {'ValueLocal', 'MemorySlot'}:
         raise unknown('homes', sorted(set(homes)))
-    in_memory = {i for i, home in enumerate(homes) if home == 'MemorySlot'}
+    in_memory, types = {i for i, home in enumerate(homes) if home == 'MemorySlot'}, [read_type(local['ty']) for local in form['locals']]
+    if any(isinstance(s, Lend) for s in statements(body)) and holds_pointer(types[0], shapes):
+        raise Stop('a constant lent in a function whose result may point to it')
+    types, in_memory, body = with_arrays(form['params'], types, in_memory, body)
     for statement in statements(body):
         if isinstance(statement, Assign) and isinstance(statement.value, Address):
             place = statement.value.place
             if place.base not in in_memory and not derefs(place.steps):
                 raise Stop(f'the address of value local {place.base}')
-    return Function(name, form['params'], [read_type(local['ty']) for local in form['locals']], in_memory, body)
+    return Function(name, form['params'], types, in_memory, body)
+
+
+def program_of(folder, crate):
+    """Where a build leaves a crate's proved program."""
+    return os.path.join(folder, crate, 'out', 'rlib', crate + '.rlib', 'toolchain', 'mir.json')
 
 
 class Program:
@@ -164,27 +245,25 @@ class Program:
         self.functions, self.shapes = {}, {}
 
     def crate(self, name):
-        """The crate's folder, its program read."""
-        folder = os.path.join(self.folder, name + '.rlib')
+        """The crate's program read, if it was not before."""
         if name not in self.crates:
             self.crates.add(name)
-            path = os.path.join(folder, 'toolchain', 'mir.json')
+            path = program_of(self.folder, name)
             if not os.path.isfile(path):
                 raise Stop(f'crate {name}: no proved program {path}')
             with open(path, encoding='utf-8') as handle:
                 for function, form in json.load(handle):
                     self.add(function, form)
-        return folder
 
     def add(self, name, form):
         try:
             if name in self.functions:
                 raise Stop('two functions of this name')
-            self.functions[name] = read_function(name, form)
             for declared in form['types']:
                 shape = read_shape(declared['shape'])
                 if self.shapes.setdefault(declared['name'], shape) != shape:
                     raise Stop(f'two shapes of {declared["name"]}')
+            self.functions[name] = read_function(name, form, self.shapes)
         except Stop as stop:
             raise Stop(f'{name}: {stop}')
         except (LookupError, TypeError, ValueError, AttributeError, StopIteration) as error:

@@ -64,8 +64,8 @@ def describe(folder, crate, functions, field_names):
 
 
 def exports(folder, crate):
-    """The functions of a crate that are marked `#[no_mangle] pub extern "C"`."""
+    """The functions of a crate that are marked `#[unsafe(no_mangle)] pub extern "C"`."""
     for module, text in modules(folder, crate):
         for _, marks, public, extern, name, params, result in FUNCTION.findall(text):
-            if '#[no_mangle]' in marks and public and extern:
+            if '#[unsafe(no_mangle)]' in marks and public and extern:
                 yield Export(f'{module}::{name}', name, tuple(re.findall(r'\w+\s*:\s*([^,]+)', params)), result)

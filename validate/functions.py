@@ -77,8 +77,8 @@ def with_calls(matcher, solver, name, calls):
     c, program, way = matcher.c, matcher.program, matcher.copies[name]
     locals_of, callees, dead, written = matcher.locals_of(name, way), matcher.callees(calls.called), frozenset(), frozenset()
     f = program.get(way.name)
-    shapes = {i: program.shape(t) for i, t in enumerate(f.types) if f.in_memory(i)}
-    unused = {i for i in shapes if f't{i}' not in declared_in(c.functions[name].body)} - used_locals(f.body)
+    shapes = {i: program.shape(t) for i, t in f.memory().items()}
+    unused = set(shapes) - {locals_of.get(variable) for variable in declared_in(c.functions[name].body)} - used_locals(f.body)
     for _ in range(TURNS):
         calls.theirs = CRun(c, name, way.parameters, locals_of, callees, shapes, dead, written)
         ours = ProgramRun(program, way.name, calls.in_place, way.fixed, c.target.size_bits, written, unused)

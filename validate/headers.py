@@ -56,7 +56,7 @@ class Headers:
         elif not isinstance(result, CStruct) or not isinstance(t, dict) or 'Named' not in t:
             raise Refused(f'{export.name}: another result in {where}')
         else:
-            self.same_members(export, t['Named']['name'], result, where)
+            self.same_members(export, self.program.named(t), result, where)
 
     def same_members(self, export, path, result, where):
         if path.split('::')[-1] != export.result.split('::')[-1]:

@@ -91,13 +91,17 @@ class Matcher:
         return out
 
     def locals_of(self, name, match):
-        """C variable -> the program's local, a hint: parameters in order, t7 the local 7."""
+        """C variable -> the program's local, a hint: parameters in order, t7 the local 7, where those that a constant is lent to come before the
+        first that is no number."""
         f = self.program.get(match.name)
         given = [variable for variable, _ in self.c.parameters(self.c.functions[name])]
-        out = dict(zip(given, match.parameters))
-        for i in range(len(f.types)):
+        out, order = dict(zip(given, match.parameters)), list(range(len(f.types)))
+        if f.lent:
+            first = next(i for i in order if i > f.params and not (isinstance(f.types[i], dict) and 'Int' in f.types[i]))
+            order = order[:first] + sorted(f.lent) + [i for i in order[first:] if i not in f.lent]
+        for i, local in enumerate(order):
             if i == 0 or i > f.params:
-                out.setdefault(f't{i}', i)
+                out.setdefault(f't{i}', local)
         return out
 
     def has_call(self, called, name, literals):

@@ -1,7 +1,10 @@
-"""Reads the proved program: target/rlib/NAME.rlib/toolchain/mir.json of every crate. Uses nothing of port/.
+"""Reads the proved program: crates/NAME/out/rlib/NAME.rlib/toolchain/mir.json of every crate. Uses nothing of port/.
 
 A body becomes a list of statements: ('Assign', place, value), ('Call', name, arguments, place), ('If', operand, body, body),
 ('Switch', operand, [(keys or None, body)]), ('Block', body), ('Loop', body), ('Exit', depth), ('Return',).
+
+A constant array that the program lends (`LendStatic`) lies in memory that is there from the start and that nothing writes: `lent` has its local, which
+holds its address in the whole run, and what the array holds. No statement stands for it.
 """
 import json
 import os
@@ -16,6 +19,9 @@ class Function:
         self.name, self.params = name, form['params']
         self.types = [local['ty'] for local in form['locals']]
         self.homes = [local['home'] for local in form['locals']]
+        self.lent = {local: constant for local, *constant in map(lent, form['body']) if local is not None}
+        if any(self.types[local].get('Ref', [None])[1:] != ['Imm', t] or self.in_memory(local) for local, (t, _) in self.lent.items()):
+            raise Refused(f'{name}: a constant lent to a local of another type')
         if set(self.homes) - {'ValueLocal', 'MemorySlot'}:
             raise Refused(f'{name}: homes {set(self.homes)}')
         tokens = iter(form['body'])
@@ -29,6 +35,26 @@ class Function:
     def in_memory(self, local):
         return self.homes[local] == 'MemorySlot'
 
+    def memory(self):
+        """Local -> the type of what lies in memory for it: its own value, or the constant that it is lent."""
+        return {i: self.lent[i][0] if i in self.lent else t for i, t in enumerate(self.types) if self.in_memory(i) or i in self.lent}
+
+
+def lent(token):
+    """(local, array type, its numbers as operands or ('Repeat', operand)) of a token that lends a constant; (None,) of others."""
+    if not isinstance(token, dict) or 'LendStatic' not in token:
+        return (None,)
+    place, t, constant = token['LendStatic']
+    kind, content = only(constant)
+    item, length = t['Array'] if set(t) == {'Array'} else (None, None)
+    if place['steps'] or length is None or set(length) != {'Lit'}:
+        raise Refused(f'constant {json.dumps(token)[:80]}')
+    if kind == 'Ints' and item == {'Int': content['width']} and length['Lit'] == len(content['values']):
+        return place['local'], t, [{'Int': {'width': content['width'], 'value': value}} for value in content['values']]
+    if kind == 'Repeat' and item == {'Int': content[0].get('Int', {}).get('width')} and length['Lit'] == content[1]:
+        return place['local'], t, ('Repeat', content[0])
+    raise Refused(f'constant {json.dumps(token)[:80]}')
+
 
 def read_body(tokens):
     """The next body of a list in prefix order."""
@@ -37,7 +63,7 @@ def read_body(tokens):
     if kind == 'Seq':
         first = read_body(tokens)
         return first + read_body(tokens)
-    if kind == 'Skip':
+    if kind in ('Skip', 'LendStatic'):
         return []
     if kind == 'Return':
         return [('Return',)]
@@ -51,8 +77,8 @@ def read_body(tokens):
         return [('Switch', content[0], arms + ([(None, read_body(tokens))] if content[2] else []))]
     if kind == 'Assign':
         return [('Assign', content[0], content[1])]
-    if kind == 'Call' and set(content[0]) == {'Direct'}:
-        return [('Call', content[0]['Direct'], content[1], content[2])]
+    if kind == 'Call' and set(content[0]) == {'Fn'} and content[0]['Fn'][1] == {'types': [], 'dicts': []}:
+        return [('Call', content[0]['Fn'][0], content[1], content[2])]
     if kind == 'Exit':
         return [('Exit', content)]
     raise Refused(f'statement {kind}')
@@ -101,15 +127,15 @@ class Program:
 
     def __init__(self, folder):
         self.functions, self.declared = {}, {}
-        crates = sorted(name for name in os.listdir(folder) if name.endswith('.rlib')) if os.path.isdir(folder) else []
-        if not crates:
+        crates = sorted(os.listdir(folder)) if os.path.isdir(folder) else []
+        paths = [os.path.join(folder, crate, 'out', 'rlib', crate + '.rlib', 'toolchain', 'mir.json') for crate in crates]
+        paths = [path for path in paths if os.path.isfile(path)]
+        if not paths:
             raise SystemExit(f'validate: no proved crates in {folder}')
-        for crate in crates:
-            path = os.path.join(folder, crate, 'toolchain', 'mir.json')
-            if os.path.isfile(path):
-                with open(path, encoding='utf-8') as handle:
-                    for name, form in json.load(handle):
-                        self.add(name, form)
+        for path in paths:
+            with open(path, encoding='utf-8') as handle:
+                for name, form in json.load(handle):
+                    self.add(name, form)
 
     def add(self, name, form):
         if name in self.functions:
@@ -118,6 +144,8 @@ class Program:
         for declared in form['types']:
             if self.declared.setdefault(declared['name'], declared['shape']) != declared['shape']:
                 raise Refused(f'{declared["name"]}: two shapes')
+        if self.functions[name].lent and self.may_point(self.functions[name].types[0]):
+            raise Refused(f'{name}: a constant lent in a function whose result may point to it')
 
     def get(self, name):
         if name not in self.functions:
@@ -125,6 +153,24 @@ class Program:
         return self.functions[name]
 
     # ---- types
+
+    def may_point(self, t):
+        """Whether a value of this type may hold a pointer."""
+        if isinstance(t, str):
+            return t == 'Ptr'
+        kind, content = only(t)
+        if kind == 'Named':
+            shape, parts = only(self.declared[self.named(t)])
+            return any(map(self.may_point, parts if shape == 'Fields' else [u for variant in parts for u in variant]))
+        return kind != 'Int' and (kind != 'Array' or self.may_point(content[0]))
+
+    @staticmethod
+    def named(t):
+        """The name of a declared type without parameters."""
+        head, parts = t['Named']
+        if parts:
+            raise Refused(f'type {json.dumps(t)[:80]}')
+        return head['name']
 
     def shape(self, t):
         """A type as a shape of terms. A pointer is its address; an enum its tag and a place for each field of each variant."""
@@ -144,7 +190,7 @@ class Program:
         if kind == 'Named' and self.is_enum(t):
             return [BV(8)] + [self.shape(u) for _, u in self.slots(t)]
         if kind == 'Named':
-            return [self.shape(u) for u in only(self.declared[content['name']])[1]]
+            return [self.shape(u) for u in only(self.declared[self.named(t)])[1]]
         if kind == 'Array' and set(content[1]) == {'Lit'} and 'Int' in content[0]:
             return 'array', self.shape(content[0]), content[1]['Lit']
         raise Refused(f'type {t}')
@@ -153,12 +199,12 @@ class Program:
         return isinstance(t, dict) and 'Struct' in t and t['Struct'][0] == '&[]' and t['Struct'][1][1] == {'Int': 64}
 
     def is_enum(self, t):
-        return isinstance(t, dict) and 'Named' in t and 'Variants' in self.declared[t['Named']['name']]
+        return isinstance(t, dict) and 'Named' in t and 'Variants' in self.declared[self.named(t)]
 
     def slots(self, t):
         """An enum's fields: (position, type), each once, in the order of the variants."""
         out = []
-        for variant in self.declared[t['Named']['name']]['Variants']:
+        for variant in self.declared[self.named(t)]['Variants']:
             out += [slot for slot in enumerate(variant) if slot not in out]
         return out
 
@@ -167,8 +213,8 @@ class Program:
         if self.is_slice(t):
             return index, t['Struct'][1][index]
         if not self.is_enum(t):
-            return index, only(self.declared[only(t)[1]['name']])[1][index]
+            return index, only(self.declared[self.named(t)])[1][index]
         if index == 0:
             return 0, {'Int': 8}
-        u = self.declared[t['Named']['name']]['Variants'][variant][index - 1]
+        u = self.declared[self.named(t)]['Variants'][variant][index - 1]
         return 1 + self.slots(t).index((index - 1, u)), u

@@ -31,12 +31,27 @@ class ProgramRun(Run):
                 raise Refused('the program has a parameter in memory')
             if program.is_slice(self.f.types[i]):
                 self.slice_there(state, values[i])
+        self.lend(state)
         if self.body(self.f.body, state, []) is not None:
             raise Refused('the program ends without a return')
 
     def argument(self, i, fixed):
         shape = self.program.shape(self.f.types[i])
         return known(number(fixed[i], shape.size())) if i in fixed else symbols(shape, f'parameter {i}')
+
+    def lend(self, state):
+        """The constants that the function lends, each at its address from the start. C fills an array there; the program has it there in any case."""
+        for i, (t, constant) in sorted(self.f.lent.items()):
+            pointer, count = self.address(i), t['Array'][1]['Lit']
+            state.locals[i] = known(pointer)
+            if isinstance(constant, tuple):
+                state.memory = filled(state.memory, pointer, count, self.operand(state, constant[1])[0])
+            else:
+                for part in constant:
+                    pointer = self.write_leaf(state, pointer, self.operand(state, part)[0])
+
+    def address(self, i):
+        return z3.Const(f'address {self.depth} {i}', z3.BitVecSort(64))
 
     # ---- statements
 
@@ -133,7 +148,7 @@ class ProgramRun(Run):
     def locate(self, state, place):
         i, variant = place['local'], None
         t = self.f.types[i]
-        at = ('memory', z3.Const(f'address {self.depth} {i}', z3.BitVecSort(64))) if self.f.in_memory(i) else ('value', i, ())
+        at = ('memory', self.address(i)) if self.f.in_memory(i) else ('value', i, ())
         for step in place['steps']:
             kind, content = only(step)
             if kind == 'Deref':
@@ -269,7 +284,7 @@ class ProgramRun(Run):
             return parts
         tag, slots = literal(content[0]), self.program.slots(t)
         out = [known(number(tag, 8))] + [None] * len(slots)
-        for slot, part in zip(enumerate(self.program.declared[t['Named']['name']]['Variants'][tag]), parts[1:]):
+        for slot, part in zip(enumerate(self.program.declared[self.program.named(t)]['Variants'][tag]), parts[1:]):
             out[1 + slots.index(slot)] = part
         return out
 
@@ -354,6 +369,8 @@ class ProgramRun(Run):
     def run_in_place(self, state, f, values):
         if self.depth == DEEPEST:
             raise Refused('functions in place of their calls too deep')
+        if f.lent:
+            raise Refused('a constant lent in a function that C has in place')
         kept, self.f, self.returns, self.depth = (self.f, self.returns), f, [], self.depth + 1
         self.body(f.body, State(state.guard, dict(enumerate(values, 1)), state.memory), [])
         end = merge(self.returns)

@@ -9,7 +9,7 @@ from terms import Refused
 NUMBERS = {**{f'{sign}{bits}': ('' if sign == 'i' else 'u') + f'int{bits}_t' for sign in 'iu' for bits in (8, 16, 32, 64)},
            'usize': 'size_t', 'bool': '_Bool'}
 SLICES = {'&[u8]': 'const uint8_t *', '&mut [u8]': 'uint8_t *'}
-EXPORT = re.compile(r'#\[no_mangle\]\s*pub extern "C" fn (\w+)\s*\(([^)]*)\)\s*(?:->\s*([\w:]+))?')
+EXPORT = re.compile(r'#\[unsafe\(no_mangle\)\]\s*pub extern "C" fn (\w+)\s*\(([^)]*)\)\s*(?:->\s*([\w:]+))?')
 STRUCT = r'(?:pub )?struct {name}\s*\{{(.*?)\n\}}'
 
 

@@ -2,7 +2,7 @@
 """Validates C files against the proved program they were made from: for all inputs, on every target, each function.
 
     python3 validate/validate.py [--solver z3|cvc5] [--jobs N] [--only NAME] [--joined dist/kagutin_all.c] --include include \\
-        --file dist/kagutin.c --rlib target/rlib --source crates --export kagutin --header kagutin.h ...
+        --file dist/kagutin.c --rlib crates --source crates --export kagutin --header kagutin.h ...
 
 After each --file come the words that the generator got for it. Ends with status 1 if anything is refused, unknown or not decided.
 """

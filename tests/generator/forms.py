@@ -119,7 +119,7 @@ def numbers(w, rng):
 
 def write_crate(folder, cases):
     """A crate with one exported function for each case, as the prover would leave it; its source has what the generator reads there."""
-    rlib, src = os.path.join(folder, 'rlib', 'forms.rlib', 'toolchain'), os.path.join(folder, 'crates', 'forms', 'src')
+    rlib, src = os.path.join(folder, 'crates', 'forms', 'out', 'rlib', 'forms.rlib', 'toolchain'), os.path.join(folder, 'crates', 'forms', 'src')
     os.makedirs(rlib)
     os.makedirs(src)
     with open(os.path.join(rlib, 'mir.json'), 'w', encoding='utf-8') as handle:
@@ -127,7 +127,7 @@ def write_crate(folder, cases):
     with open(os.path.join(src, 'lib.rt'), 'w', encoding='utf-8') as source, open(os.path.join(folder, 'forms.h'), 'w', encoding='utf-8') as header:
         header.write('#include <stdbool.h>\n#include <stdint.h>\n')
         for name, _, w, result, _, _ in cases:
-            source.write(f'#[no_mangle]\npub extern "C" fn {name}(a: u{w}, b: u{w}) -> {"bool" if result == 1 else f"u{result}"}\n{{\n}}\n')
+            source.write(f'#[unsafe(no_mangle)]\npub extern "C" fn {name}(a: u{w}, b: u{w}) -> {"bool" if result == 1 else f"u{result}"}\n{{\n}}\n')
             header.write(f'{"bool" if result == 1 else f"uint{result}_t"} {name}(uint{w}_t a, uint{w}_t b);\n')
 
 
@@ -157,7 +157,7 @@ def main():
         subprocess.run(['cc', '-c', '-I' + folder, f'{folder}/main.c', '-o', f'{folder}/main.o'], check=True)
         for passes in ([], ['--no-passes']):
             out = os.path.join(folder, 'forms.c')
-            subprocess.run([sys.executable, 'port/generate.py', '--rlib', f'{folder}/rlib', '--source', f'{folder}/crates', '--export', 'forms',
+            subprocess.run([sys.executable, 'port/generate.py', '--rlib', f'{folder}/crates', '--source', f'{folder}/crates', '--export', 'forms',
                             '--header', 'forms.h', '--out', out] + passes, check=True)
             for words in COMPILERS:
                 command = ['cc', '-std=c99', '-Wall', '-Wextra', '-Wno-unused-function', '-Werror', '-I' + folder] + words

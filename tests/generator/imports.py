@@ -27,7 +27,7 @@ def mark(folder, crate, module, names):
     with open(path, encoding='utf-8') as handle:
         text = handle.read()
     for name in names:
-        text, count = re.subn(rf'^pub fn {name}\(', f'#[no_mangle]\npub extern "C" fn {name}(', text, flags=re.M)
+        text, count = re.subn(rf'^pub fn {name}\(', f'#[unsafe(no_mangle)]\npub extern "C" fn {name}(', text, flags=re.M)
         if count != 1:
             sys.exit(f'imports.py: no function {name} in {path}')
     with open(path, 'w', encoding='utf-8') as handle:
@@ -35,7 +35,7 @@ def mark(folder, crate, module, names):
 
 
 def generate(folder, out, export, header, words):
-    run(sys.executable, 'port/generate.py', '--rlib', 'target/rlib', '--source', folder, '--export', export, '--header', header,
+    run(sys.executable, 'port/generate.py', '--rlib', 'crates', '--source', folder, '--export', export, '--header', header,
         '--out', out, *words)
 
 

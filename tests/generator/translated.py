@@ -18,6 +18,7 @@ int64_t minus(void);
 uint64_t bit(void);
 uint64_t inverse(void);
 uint64_t copies(uint64_t x, uint64_t n);
+uint64_t marks(uint64_t n);
 '''
 BUILDS = (['-O0'], ['-O2'], ['-O2', '-DKAGUTIN_PLAIN_C'])
 WARN = ['-std=c99', '-fPIC', '-shared', '-Wall', '-Wextra', '-Werror', '-Wno-unused-function']
@@ -53,8 +54,12 @@ def copies(x, n):
     return (pick(1, x, n) ^ pick(x, 1, n) << 20 ^ pick(1, 1, n) << 40) & ALL
 
 
+def marks(n):
+    return 0x4241 ^ 0xff00 if n < 3 else (0x44434241 | n << 32) & ALL
+
+
 NUMBERS = [*range(80), 1 << 32, 1 << 63, ALL]
-CASES = [(branch, [(n,) for n in NUMBERS]), (branches, [(n,) for n in NUMBERS]), (copies, [(x, n) for x in (0, 1, 2) for n in NUMBERS])]
+CASES = [(branch, [(n,) for n in NUMBERS]), (branches, [(n,) for n in NUMBERS]), (marks, [(n,) for n in NUMBERS]), (copies, [(x, n) for x in (0, 1, 2) for n in NUMBERS])]
 CONSTANTS = {'minus': ALL, 'bit': 1 << 40, 'inverse': ALL - 1}
 
 
@@ -87,11 +92,11 @@ def main():
         for name, text in (('crates.txt', 'translated:\n'), ('translated.h', HEADER)):
             with open(os.path.join(folder, name), 'w', encoding='utf-8') as handle:
                 handle.write(text)
-        run('rt', 'check', 'translated', cwd=folder)
+        run('rt', 'lib', cwd=os.path.join(folder, 'crates', 'translated'))
         count = 0
         for passes in ([], ['--no-passes']):
             out = os.path.join(folder, 'translated.c')
-            run(sys.executable, 'port/generate.py', '--rlib', f'{folder}/target/rlib', '--source', f'{folder}/crates', '--export', 'translated',
+            run(sys.executable, 'port/generate.py', '--rlib', f'{folder}/crates', '--source', f'{folder}/crates', '--export', 'translated',
                 '--header', 'translated.h', '--out', out, *passes)
             for k, words in enumerate(BUILDS):
                 library = os.path.join(folder, f'translated{len(passes)}{k}.so')

@@ -59,7 +59,7 @@ class Tally:
 def random_program(seed, mutants):
     with tempfile.TemporaryDirectory() as folder:
         words = write_program(folder, seed)
-        program, target = Program(f'{folder}/rlib'), TARGETS[seed % len(TARGETS)]
+        program, target = Program(f'{folder}/crates'), TARGETS[seed % len(TARGETS)]
         path, plain = f'{folder}/random.c', f'{folder}/plain.c'
         for out, passes in ((path, ()), (plain, ('--no-passes',))):
             said = generate(os.path.join(ROOT, 'port'), words, out, *passes) or refusal(program, words, out, folder, target)

@@ -168,7 +168,7 @@ class Writer:
 
     def call(self, name, args, t=U64):
         local = self.local(t)
-        self.out.append(('Call', {'Direct': f'random::{name}'}, args, place(local)))
+        self.out.append(('Call', {'Fn': [f'random::{name}', {'types': [], 'dicts': []}]}, args, place(local)))
         return copy(local)
 
     # ---- statements
@@ -310,7 +310,7 @@ def exported(rng):
     w.slice = 3
     if rng.random() < 0.5:
         w.array = w.local({'Array': [U16, {'Lit': 8}]}, 'MemorySlot')
-        w.out.append(('Assign', place(w.array), {'Repeat': [number(0, 16), 8]}))
+        w.out.append(('Assign', place(w.array), {'Repeat': [number(0, 16), {'Lit': 8}]}))
     w.statements(0, 8)
     w.out.append(('Assign', place(w.variables[2]), {'Opd': w.call('branch', [copy(w.variables[1])])}))
     w.out.append(('Assign', place(w.variables[3]), {'Opd': w.call('crossed', [copy(3), copy(1), copy(w.variables[0])])}))
@@ -326,14 +326,14 @@ def write_program(folder, seed):
     forms = [[f'random::get_{size}', getter(rng, size)] for size in (1, 2, 4, 8)] + [[f'random::put_{size}', putter(rng, size)] for size in (1, 2, 4, 8)]
     forms += [['random::short', short(rng)], ['random::branch', branch(rng)], ['random::crossed', crossed(rng)], ['random::by_width', by_width(rng)]]
     forms += [[f'random::call_{k}', exported(rng)] for k in range(EXPORTED)]
-    for part in ('rlib/random.rlib/toolchain', 'crates/random/src'):
+    for part in ('crates/random/out/rlib/random.rlib/toolchain', 'crates/random/src'):
         os.makedirs(os.path.join(folder, part), exist_ok=True)
-    with open(os.path.join(folder, 'rlib/random.rlib/toolchain/mir.json'), 'w', encoding='utf-8') as handle:
+    with open(os.path.join(folder, 'crates/random/out/rlib/random.rlib/toolchain/mir.json'), 'w', encoding='utf-8') as handle:
         json.dump(forms, handle)
     with open(os.path.join(folder, 'crates/random/src/lib.rt'), 'w', encoding='utf-8') as source, \
             open(os.path.join(folder, 'random.h'), 'w', encoding='utf-8') as header:
         header.write('#include <stddef.h>\n#include <stdint.h>\n')
         for k in range(EXPORTED):
-            source.write(f'#[no_mangle]\npub extern "C" fn call_{k}(a: u64, b: u64, s: &mut [u8]) -> u64\n{{\n}}\n')
+            source.write(f'#[unsafe(no_mangle)]\npub extern "C" fn call_{k}(a: u64, b: u64, s: &mut [u8]) -> u64\n{{\n}}\n')
             header.write(f'uint64_t call_{k}(uint64_t a, uint64_t b, uint8_t *s, size_t s_size);\n')
-    return ['--rlib', f'{folder}/rlib', '--source', f'{folder}/crates', '--export', 'random', '--header', 'random.h']
+    return ['--rlib', f'{folder}/crates', '--source', f'{folder}/crates', '--export', 'random', '--header', 'random.h']
