@@ -2,16 +2,16 @@
 use mathlib.Core.Path.{◌≡◌, refl, sym, ap, ◌∙◌}
 use mathlib.Core.Bool.{Bool, true, false, cond}
 use mathlib.Core.List.{List}
-use Prim.Native.Nat.{ℕ, ◌+◌, ◌-◌, ◌*◌, ◌/◌, ◌%◌, ◌^◌, min, ◌≤◌}
+use Prim.Native.Nat.{ℕ, ◌+◌, ◌-◌, ◌*◌, ◌/◌, ◌≤◌}
 use native.Mathlib.Omega.{arith}
 use lib.Dec.{eqb, leb}
 use lib.Bits.{bit_and, and_high}
 use borrow.Author.Tests.{eq-eqb}
 use Rattle.model.specs.Bytes.{number}
-use Rattle.model.specs.Tag.{field, home_field, says, read_fields, read_tag}
+use Rattle.model.specs.Tag.{field, says, read_fields, read_tag}
 use Rattle.model.specs.Layout.{top_bit, group_block, group_tag, tag_offset, word_there}
 use Rattle.model.specs.declared.Tag.{Tag}
-use Rattle.model.specs.declared.Tag.TheVariants.{Nothing, Entry, Closing}
+use Rattle.model.specs.declared.Tag.TheVariants.{Entry, Closing}
 use Rattle.log_limits.specs.Limits.{span_limit}
 
 -- a tag that leaves the limit still does behind a test

@@ -1,5 +1,5 @@
 -- Laws of the highest start that no open transaction lies across, writer by writer. Assumes nothing.
-use mathlib.Core.Path.{◌≡◌, refl, sym, ◌∙◌}
+use mathlib.Core.Path.{◌≡◌, refl, sym, ◌∙◌, subst}
 use mathlib.Core.Bool.{Bool, true, false, not, ◌&&◌, and-false}
 use mathlib.Core.List.{List}
 use Prim.Native.Nat.{ℕ, zero, suc, ◌+◌, ◌*◌, ◌/◌, min, ◌≤◌, ◌<◌}
@@ -84,7 +84,7 @@ open_turn s n limit r r' e i = rw add-one (go (has_logged (writer_of s n)) refl)
         let q : r' ≡ r = rw f at e in
         record {
           most = omega (arith, i.most);
-          allowed = rw (f, q, i.allowed);
+          allowed = rw f (subst (λ (x : ℕ). (none_open_before (7 * x) s n && true) ≡ true) (sym q) (rw i.allowed));
           above = λ t h k. rw (f, i.above t (omega arith) k);
         }
 

@@ -1,4 +1,6 @@
 // Trim's limits: the highest start that no open transaction lies across, and the highest up to that which no committed one lies across.
+#![tactic(auto)]
+
 mod spans;
 mod writers;
 

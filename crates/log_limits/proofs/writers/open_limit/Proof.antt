@@ -7,31 +7,31 @@ use Rattle.log_limits.proofs.WriterLaws.{open_none, open_turn, open-end}
 use Rattle.log_limits.proofs.writers.open_limit.Statement.{statement}
 use Rattle.log_limits.proofs.writers.open_limit.Tie as tie
 
-abbrev invariant-loop : tie.invariant-loop
+abbrev invariant-loop : tie.invariant-loop-w
 invariant-loop state limit lowest₀ w₀ lowest w = Highest (λ s. none_open_before (7 * s) state w) limit lowest × (w ≤ 8)
 
-abbrev decreases-loop : tie.decreases-loop
+abbrev decreases-loop : tie.decreases-loop-w
 decreases-loop state limit lowest₀ w₀ lowest w = 8 - w
 
-loop-holds : tie.Need-loop-init invariant-loop decreases-loop
+loop-holds : tie.Need-loop-w-init invariant-loop decreases-loop
 loop-holds c = (open_none _ _, omega arith)
 
-writer-limit-requires : tie.Need-writer-limit-requires invariant-loop decreases-loop
+writer-limit-requires : tie.Need-writer_limit-lowest-requires invariant-loop decreases-loop
 writer-limit-requires c κs = omega arith
 
-add-w : tie.Need-overflow-add-w invariant-loop decreases-loop
+add-w : tie.Need-overflow_add-w invariant-loop decreases-loop
 add-w c = omega arith
 
-loop-less : tie.Need-loop-smaller invariant-loop decreases-loop
+loop-less : tie.Need-loop-w-smaller invariant-loop decreases-loop
 loop-less c = omega arith
 
-loop-again : tie.Need-loop-preserved invariant-loop decreases-loop
-loop-again c = (open_turn _ _ _ _ _ c.writer-limit.ensures c.before.before.loop.invariant.0, omega arith)
+loop-again : tie.Need-loop-w-preserved invariant-loop decreases-loop
+loop-again c = (open_turn _ _ _ _ _ c.writer_limit-lowest.ensures c.loop-w.invariant.0, omega arith)
 
 returns : tie.Need-returns invariant-loop decreases-loop
-returns c = open-end _ _ _ _ _ (omega arith) c.before.loop.invariant.0
+returns c = open-end _ _ _ _ _ (omega arith) c.loop-w.invariant.0
 
-pub open-limit-spec : {M : Type 1} → statement M
-open-limit-spec =
+pub open_limit_spec : {M : Type 1} → statement M
+open_limit_spec =
     tie.close
     (tie.spec invariant-loop decreases-loop loop-holds writer-limit-requires add-w loop-less loop-again returns)
