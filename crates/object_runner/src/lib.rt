@@ -1,4 +1,6 @@
 // The runner: from a batch and how far it has been handed out to the next action for a driver. No callback, no heap, no table.
+#![tactic(auto)]
+
 mod records;
 
 ghost use Rattle.std.specs.Prelude.{◌≡◌, ◌+◌, ◌≤◌, length, drop};
@@ -9,7 +11,7 @@ use records::{bare, fence_action, group_action, header_action, home_action};
 
 // How far a batch has been handed out: its records before index `at`; the first words of all groups below `headed`; and, of the record at `at`,
 // how many of its steps (`stage`), where it takes more than one.
-#[derive(Drop)]
+#[derive(Clone, Copy)]
 pub struct Cursor {
     pub at: u64,
     pub headed: u64,
@@ -19,7 +21,7 @@ pub struct Cursor {
 // What to do next. `kind`: 0 all is done, 1 write, 2 fence, 3 refused, with nothing done. A write: `size` bytes at `offset` of `area` (0 the log,
 // 1 the homes), which lie in `source` (0 the batch, 1 the log copy) from index `from` on. Then the cursor to ask with when it has been carried out.
 #[repr(C)]
-#[derive(Drop)]
+#[derive(Clone, Copy)]
 pub struct Action {
     pub kind: u64,
     pub area: u64,

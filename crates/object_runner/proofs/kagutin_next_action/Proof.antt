@@ -1,5 +1,6 @@
 -- `object_runner::kagutin_next_action` meets its contract. Assumes nothing.
-use mathlib.Core.Path.{refl}
+use mathlib.Core.Bool.{not}
+use mathlib.Core.Path.{refl, ap}
 use native.Mathlib.Omega.{arith}
 use Rattle.object_runner.proofs.AskedLaws.{was-asked}
 use Rattle.object_runner.proofs.NextLaws.{next-refused, next-done, next-short, next-record}
@@ -13,40 +14,38 @@ asked-requires c κs = search rules
 bare-requires : tie.Need-bare-requires
 bare-requires c κs = search rules
 
-returns : tie.Need-returns
-returns c = next-refused _ _ _ _ _ _ _ _ c.before.before.asked.ensures c.before.if1.true c.bare.ensures
+returns : tie.Need-returns-then-not-asked
+returns c = next-refused _ _ _ _ _ _ _ _ c.asked.ensures (ap not c.if-not-asked.true) c.bare.ensures
 
-bare-requires-2 : tie.Need-bare-requires-2
+bare-requires-2 : tie.Need-bare-requires-then-at-size
 bare-requires-2 c κs = search rules
 
-returns-2 : tie.Need-returns-2
+returns-2 : tie.Need-returns-then-at-size
 returns-2 c =
-    let g = c.before.before in next-done _ _ _ _ _ _ _ _ g.before.asked.ensures g.if1.false c.before.if2.true c.bare2.ensures
+    next-done _ _ _ _ _ _ _ _ c.asked.ensures (ap not c.if-not-asked.false) c.if-at-size.true c.bare-then-at-size.ensures
 
-sub-if3 : tie.Need-overflow-sub-if3
-sub-if3 c = (was-asked _ _ _ _ _ _ c.before.before.asked.ensures c.before.if1.false).within
+sub-if3 : tie.Need-overflow_sub-size
+sub-if3 c = (was-asked _ _ _ _ _ _ c.asked.ensures (ap not c.if-not-asked.false)).within
 
-bare-requires-3 : tie.Need-bare-requires-3
+bare-requires-3 : tie.Need-bare-requires-then-size-at-lt2
 bare-requires-3 c κs = search rules
 
-returns-3 : tie.Need-returns-3
+returns-3 : tie.Need-returns-then-size-at-lt2
 returns-3 c =
-    let g = c.before.before.before in
-    next-short _ _ _ _ _ _ _ _ g.before.asked.ensures g.if1.false c.before.before.if2.false c.before.if3.true c.bare3.ensures
+    next-short _ _ _ _ _ _ _ _ c.asked.ensures (ap not c.if-not-asked.false) c.if-at-size.false c.if-size-at-lt2.true c.bare-then-size-at-lt2.ensures
 
-record-action-requires : tie.Need-record-action-requires
+record-action-requires : tie.Need-record_action-requires
 record-action-requires c κs =
-    let a = was-asked _ _ _ _ _ _ c.before.before.before.asked.ensures c.before.before.if1.false in
-    (omega (arith, c.if3.false, a.within), a.some, a.most)
+    let a = was-asked _ _ _ _ _ _ c.asked.ensures (ap not c.if-not-asked.false) in
+    (omega (arith, c.if-size-at-lt2.false, a.within), a.some, a.most)
 
-returns-4 : tie.Need-returns-4
+returns-4 : tie.Need-returns
 returns-4 c =
-    let g = c.before.before.before in
-    next-record _ _ _ _ _ _ _ _ g.before.asked.ensures g.if1.false c.before.before.if2.false _ refl c.before.if3.false
-    c.record-action.ensures
+    next-record _ _ _ _ _ _ _ _ c.asked.ensures (ap not c.if-not-asked.false) c.if-at-size.false _ refl c.if-size-at-lt2.false
+    c.record_action.ensures
 
-pub kagutin-next-action-spec : {M : Type 1} → statement M
-kagutin-next-action-spec =
+pub kagutin_next_action_spec : {M : Type 1} → statement M
+kagutin_next_action_spec =
     tie.close
     (tie.spec
     asked-requires

@@ -4,11 +4,11 @@ use Rattle.object_runner.proofs.NextLaws.{due-words, due-blocks}
 use Rattle.object_runner.proofs.records.due.Statement.{statement}
 use Rattle.object_runner.proofs.records.due.Tie as tie
 
-returns : tie.Need-returns
-returns c = due-words _ _ _ _ c.if1.true refl
+returns : tie.Need-returns-then-words
+returns c = due-words _ _ _ _ c.if-words.true refl
 
-returns-2 : tie.Need-returns-2
-returns-2 c = due-blocks _ _ _ c.if1.false
+returns-2 : tie.Need-returns
+returns-2 c = due-blocks _ _ _ c.if-words.false
 
-pub due-spec : {M : Type 1} → statement M
-due-spec = tie.close (tie.spec returns returns-2)
+pub due_spec : {M : Type 1} → statement M
+due_spec = tie.close (tie.spec returns returns-2)

@@ -9,29 +9,29 @@ use Rattle.object_runner.proofs.records.due_action.Tie as tie
 bare-requires : tie.Need-bare-requires
 bare-requires c κs = search rules
 
-returns : tie.Need-returns
-returns c = due-fence _ _ _ c.before.if1.true c.bare.ensures
+returns : tie.Need-returns-then-c-eq0
+returns c = due-fence _ _ _ c.if-c-eq0.true c.bare.ensures
 
-rem-offset : tie.Need-nonzero-rem-offset
+rem-offset : tie.Need-nonzero_rem-offset
 rem-offset c = search rules
 
-mul-offset : tie.Need-overflow-mul-offset
-mul-offset c = let a = c.before.before.before in omega (arith, a.requires.1, mod-lt a.args.c.headed a.requires.0)
+mul-offset : tie.Need-overflow_mul-offset
+mul-offset c = omega (arith, c.requires.1, mod-lt c.args.c.headed c.requires.0)
 
-add-offset : tie.Need-overflow-add-offset
-add-offset c = let a = c.before.before.before in omega (arith, a.requires.1, mod-lt a.args.c.headed a.requires.0)
+add-offset : tie.Need-overflow_add-offset
+add-offset c = omega (arith, c.requires.1, mod-lt c.args.c.headed c.requires.0)
 
-add-t7 : tie.Need-overflow-add-t7
+add-t7 : tie.Need-overflow_add-more
 add-t7 c = search rules
 
 write-requires : tie.Need-write-requires
 write-requires c κs = search rules
 
-returns-2 : tie.Need-returns-2
-returns-2 c = due-word _ _ _ c.before.before.before.if1.false c.write.ensures
+returns-2 : tie.Need-returns
+returns-2 c = due-word _ _ _ c.if-c-eq0.false c.write.ensures
 
-pub due-action-spec : {M : Type 1} → statement M
-due-action-spec =
+pub due_action_spec : {M : Type 1} → statement M
+due_action_spec =
     tie.close
     (tie.spec
     bare-requires

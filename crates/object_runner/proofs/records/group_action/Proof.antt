@@ -4,66 +4,64 @@ use borrow.Author.Rules.{rules}
 use Rattle.object_runner.proofs.records.group_action.Statement.{statement}
 use Rattle.object_runner.proofs.records.group_action.Tie as tie
 
-sub-if1 : tie.Need-overflow-sub-if1
+sub-if1 : tie.Need-overflow_sub-batch
 sub-if1 c = search rules
 
 bare-requires : tie.Need-bare-requires
 bare-requires c κs = search rules
 
-returns : tie.Need-returns
-returns c = group-short _ _ _ _ _ c.before.if1.true c.bare.ensures
+returns : tie.Need-returns-then-batch-at-lt516
+returns c = group-short _ _ _ _ _ c.if-batch-at-lt516.true c.bare.ensures
 
-add-number : tie.Need-overflow-add-number
+add-number : tie.Need-overflow_add-at
 add-number c = search rules
 
-number-requires : tie.Need-number-requires
+number-requires : tie.Need-number-slot-requires
 number-requires c κs = search rules
 
-bare-requires-2 : tie.Need-bare-requires-2
+bare-requires-2 : tie.Need-bare-requires-then-slot-groups
 bare-requires-2 c κs = search rules
 
-returns-2 : tie.Need-returns-2
-returns-2 c = group-high _ _ _ _ _ _ c.before.before.before.if1.false c.before.before.number.ensures.0 c.before.if2.true c.bare2.ensures
+returns-2 : tie.Need-returns-then-slot-groups
+returns-2 c = group-high _ _ _ _ _ _ c.if-batch-at-lt516.false c.number-slot.ensures.0 c.if-slot-groups.true c.bare-then-slot-groups.ensures
 
-mul-offset : tie.Need-overflow-mul-offset
+mul-offset : tie.Need-overflow_mul-offset
 mul-offset c = search rules
 
-add-offset : tie.Need-overflow-add-offset
+add-offset : tie.Need-overflow_add-offset
 add-offset c = search rules
 
-add-from : tie.Need-overflow-add-from
+add-from : tie.Need-overflow_add-from
 add-from c = search rules
 
-add-t13 : tie.Need-overflow-add-t13
+add-t13 : tie.Need-overflow_add-past
 add-t13 c = search rules
 
 parts-requires : tie.Need-parts-requires
 parts-requires c κs = search rules
 
-add-write : tie.Need-overflow-add-write
+add-write : tie.Need-overflow_add-offset-then-parts
 add-write c = search rules
 
-add-write-2 : tie.Need-overflow-add-write-2
+add-write-2 : tie.Need-overflow_add-from-then-parts
 add-write-2 c = search rules
 
 write-requires : tie.Need-write-requires
 write-requires c κs = search rules
 
-returns-3 : tie.Need-returns-3
+returns-3 : tie.Need-returns-then-parts
 returns-3 c =
-    let n = c.before.before.before.before.before in
-    group-parted _ _ _ _ _ _ n.before.before.if1.false n.before.number.ensures.0 n.if2.false _ c.before.before.parts.ensures c.before.if3.true c.write.ensures
+    group-parted _ _ _ _ _ _ c.if-batch-at-lt516.false c.number-slot.ensures.0 c.if-slot-groups.false _ c.parts.ensures c.if-parts.true c.write.ensures
 
 write-requires-2 : tie.Need-write-requires-2
 write-requires-2 c κs = search rules
 
-returns-4 : tie.Need-returns-4
+returns-4 : tie.Need-returns
 returns-4 c =
-    let n = c.before.before.before.before.before in
-    group-whole _ _ _ _ _ _ n.before.before.if1.false n.before.number.ensures.0 n.if2.false _ c.before.before.parts.ensures c.before.if3.false c.write2.ensures
+    group-whole _ _ _ _ _ _ c.if-batch-at-lt516.false c.number-slot.ensures.0 c.if-slot-groups.false _ c.parts.ensures c.if-parts.false c.write-2.ensures
 
-pub group-action-spec : {M : Type 1} → statement M
-group-action-spec =
+pub group_action_spec : {M : Type 1} → statement M
+group_action_spec =
     tie.close
     (tie.spec
     sub-if1

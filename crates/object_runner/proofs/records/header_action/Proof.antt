@@ -4,32 +4,32 @@ use borrow.Author.Rules.{rules}
 use Rattle.object_runner.proofs.records.header_action.Statement.{statement}
 use Rattle.object_runner.proofs.records.header_action.Tie as tie
 
-sub-if1 : tie.Need-overflow-sub-if1
+sub-if1 : tie.Need-overflow_sub-batch
 sub-if1 c = search rules
 
 bare-requires : tie.Need-bare-requires
 bare-requires c κs = search rules
 
-returns : tie.Need-returns
-returns c = header-short _ _ _ _ c.before.if1.true c.bare.ensures
+returns : tie.Need-returns-then-batch-at-lt66
+returns c = header-short _ _ _ _ c.if-batch-at-lt66.true c.bare.ensures
 
 wiping-requires : tie.Need-wiping-requires
 wiping-requires c κs = search rules
 
-wipe-action-requires : tie.Need-wipe-action-requires
+wipe-action-requires : tie.Need-wipe_action-requires
 wipe-action-requires c κs = search rules
 
-returns-2 : tie.Need-returns-2
-returns-2 c = header-wiped _ _ _ _ c.before.before.before.if1.false _ c.before.before.wiping.ensures c.before.if2.true c.wipe-action.ensures
+returns-2 : tie.Need-returns-then-wiping
+returns-2 c = header-wiped _ _ _ _ c.if-batch-at-lt66.false _ c.wiping.ensures c.if-wiping.true c.wipe_action.ensures
 
-whole-header-requires : tie.Need-whole-header-requires
+whole-header-requires : tie.Need-whole_header-requires
 whole-header-requires c κs = search rules
 
-returns-3 : tie.Need-returns-3
-returns-3 c = header-kept _ _ _ _ c.before.before.before.if1.false _ c.before.before.wiping.ensures c.before.if2.false c.whole-header.ensures
+returns-3 : tie.Need-returns
+returns-3 c = header-kept _ _ _ _ c.if-batch-at-lt66.false _ c.wiping.ensures c.if-wiping.false c.whole_header.ensures
 
-pub header-action-spec : {M : Type 1} → statement M
-header-action-spec =
+pub header_action_spec : {M : Type 1} → statement M
+header_action_spec =
     tie.close
     (tie.spec
     sub-if1

@@ -4,46 +4,45 @@ use borrow.Author.Rules.{rules}
 use Rattle.object_runner.proofs.records.home_action.Statement.{statement}
 use Rattle.object_runner.proofs.records.home_action.Tie as tie
 
-sub-if1 : tie.Need-overflow-sub-if1
+sub-if1 : tie.Need-overflow_sub-batch
 sub-if1 c = search rules
 
 bare-requires : tie.Need-bare-requires
 bare-requires c κs = search rules
 
-returns : tie.Need-returns
-returns c = home-short _ _ _ _ c.before.if1.true c.bare.ensures
+returns : tie.Need-returns-then-batch-at-lt68
+returns c = home-short _ _ _ _ c.if-batch-at-lt68.true c.bare.ensures
 
-add-number : tie.Need-overflow-add-number
+add-number : tie.Need-overflow_add-at
 add-number c = search rules
 
-number-requires : tie.Need-number-requires
+number-requires : tie.Need-number-home-requires
 number-requires c κs = search rules
 
-bare-requires-2 : tie.Need-bare-requires-2
+bare-requires-2 : tie.Need-bare-requires-then-home-homes
 bare-requires-2 c κs = search rules
 
-returns-2 : tie.Need-returns-2
-returns-2 c = home-high _ _ _ _ _ c.before.before.before.if1.false c.before.before.number.ensures.0 c.before.if2.true c.bare2.ensures
+returns-2 : tie.Need-returns-then-home-homes
+returns-2 c = home-high _ _ _ _ _ c.if-batch-at-lt68.false c.number-home.ensures.0 c.if-home-homes.true c.bare-then-home-homes.ensures
 
-add-write : tie.Need-overflow-add-write
+add-write : tie.Need-overflow_add-past
 add-write c = search rules
 
-mul-write : tie.Need-overflow-mul-write
+mul-write : tie.Need-overflow_mul-home
 mul-write c = search rules
 
-add-write-2 : tie.Need-overflow-add-write-2
+add-write-2 : tie.Need-overflow_add-c
 add-write-2 c = search rules
 
 write-requires : tie.Need-write-requires
 write-requires c κs = search rules
 
-returns-3 : tie.Need-returns-3
+returns-3 : tie.Need-returns
 returns-3 c =
-    let n = c.before.before.before in
-    home-done _ _ _ _ _ n.before.before.if1.false n.before.number.ensures.0 n.if2.false c.write.ensures
+    home-done _ _ _ _ _ c.if-batch-at-lt68.false c.number-home.ensures.0 c.if-home-homes.false c.write.ensures
 
-pub home-action-spec : {M : Type 1} → statement M
-home-action-spec =
+pub home_action_spec : {M : Type 1} → statement M
+home_action_spec =
     tie.close
     (tie.spec
     sub-if1

@@ -4,10 +4,10 @@ use borrow.Author.Rules.{rules}
 use Rattle.object_runner.proofs.records.whole_header.Statement.{statement}
 use Rattle.object_runner.proofs.records.whole_header.Tie as tie
 
-add-write : tie.Need-overflow-add-write
+add-write : tie.Need-overflow_add-past
 add-write c = search rules
 
-add-write-2 : tie.Need-overflow-add-write-2
+add-write-2 : tie.Need-overflow_add-c
 add-write-2 c = search rules
 
 write-requires : tie.Need-write-requires
@@ -16,5 +16,5 @@ write-requires c κs = search rules
 returns : tie.Need-returns
 returns c = header-whole _ _ c.write.ensures
 
-pub whole-header-spec : {M : Type 1} → statement M
-whole-header-spec = tie.close (tie.spec add-write add-write-2 write-requires returns)
+pub whole_header_spec : {M : Type 1} → statement M
+whole_header_spec = tie.close (tie.spec add-write add-write-2 write-requires returns)
