@@ -18,7 +18,7 @@ use Rattle.model.specs.declared.State.{State}
 use Rattle.model.specs.declared.Writer.{Writer}
 use Rattle.model.specs.Commit.{transactions}
 use Rattle.model.specs.Given.{groups, homes, live_tags, live_base}
-use Rattle.model.specs.Effects.{Given, Effect, new_state, marked, touched, touched_from, home_writes, entered, logged, log_held, link_from, log_closing, begin_effect, reserve_effect, abort_effect, store_first, store_again, store_other, store_effect, commit_held, commit_effect, flush_none, flush_part, flush_effect, confirm_effect, settle_effect, begin_round_effect, round_homes, step_homes, step_round_effect, trim_start, trim_to, trim_effect, read_effect}
+use Rattle.model.specs.Effects.{Given, Effect, new_state, touched, touched_from, home_writes, entered, logged, log_held, link_from, log_closing, begin_effect, reserve_effect, abort_effect, store_first, store_again, store_other, store_effect, commit_held, commit_effect, flush_none, flush_part, flush_effect, confirm_effect, settle_effect, begin_round_effect, round_homes, step_homes, step_round_effect, trim_start, trim_to, trim_effect, read_effect}
 use Rattle.model.specs.Questions.{writer_known, store_logs, commit_logs, room, store_answer, commit_answer}
 use Rattle.model.specs.Calls.{size_of}
 use Rattle.model.specs.History.{begins, reserves, aborts, stores, commits, flushes, settles, round_begins, round_steps, trims, reads, Call, opening, confirm, change, service, World, lent, is_opening}
