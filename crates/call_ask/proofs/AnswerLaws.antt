@@ -1,24 +1,23 @@
 -- What the two first questions tell a caller, and how a refused and a done call end. Assumes nothing.
-use mathlib.Core.Path.{◌≡◌, refl, sym, ap, ◌∙◌}
+use mathlib.Core.Path.{◌≡◌, refl, sym}
 use mathlib.Core.Bool.{Bool, true, false, ◌&&◌}
 use mathlib.Core.List.{List, []}
 use mathlib.Core.Logic.{◌≢◌}
-use Prim.Native.Nat.{ℕ, zero, suc, ◌+◌, ◌*◌, ◌^◌, ◌≤◌, ◌<◌}
+use Prim.Native.Nat.{ℕ, zero, suc, ◌+◌, ◌*◌, ◌≤◌}
 use native.Mathlib.Omega.{arith}
-use lib.Dec.{eqb, leb}
 use lib.ListN.{length}
 use borrow.Author.Tests.{eqb-true}
 use Rattle.model.specs.Bytes.{puts}
 use Rattle.model.specs.Layout.{group_count, home_count, log_length_right, data_length_right}
-use Rattle.model.specs.State.{state_of, is_in_order}
+use Rattle.model.specs.State.{state_of}
 use Rattle.model.specs.declared.State.{State}
 use Rattle.base_state.specs.Order.{GroupsInOrder}
 use Rattle.model.specs.Batch.{batch_bytes}
 use Rattle.model.specs.Effects.{Given, Effect, new_state}
 use Rattle.model.specs.Questions.{ask, areas_right, state_right, block_right, state_in_order, ask_state, ask_block}
-use Rattle.model.specs.Calls.{Outcome, refused, done, size_of, outcome}
+use Rattle.model.specs.Calls.{refused, done, outcome}
 use Rattle.model_laws.proofs.bytes.ByteLaws.{puts-nil}
-use Rattle.model_laws.proofs.state.QuestionLaws.{ask-yes, ask-no, ask-passed, and-true}
+use Rattle.model_laws.proofs.state.QuestionLaws.{ask-passed, and-true}
 use Rattle.model_laws.proofs.state.OrderLaws.{tests, InOrder, in_order}
 use Rattle.call_ask.specs.Lent.{lent, leaves_everything}
 

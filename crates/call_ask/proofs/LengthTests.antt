@@ -1,16 +1,16 @@
 -- The first two questions test by test, as the functions of this crate put them. Assumes nothing.
-use mathlib.Core.Path.{◌≡◌, refl, sym, ap, ◌∙◌}
+use mathlib.Core.Path.{◌≡◌, refl, sym, ◌∙◌}
 use mathlib.Core.Bool.{Bool, true, false, not, ◌&&◌, and-false}
 use mathlib.Core.Logic.{◌≢◌}
 use Prim.Native.Nat.{ℕ, ◌≤◌}
 use native.Mathlib.Omega.{arith}
-use borrow.Author.Tests.{not-true, not-false, eqb-true, ne_eqb, eq-eqb}
+use borrow.Author.Tests.{not-true, not-false, ne_eqb, eq-eqb}
 use lib.Dec.{eqb}
 use lib.ListN.{length}
 use Rattle.model.specs.Layout.{group_count, home_count, log_length_right, data_length_right}
 use Rattle.model.specs.State.{is_in_order}
 use Rattle.model.specs.Effects.{Given}
-use Rattle.model.specs.Questions.{ask, areas_right, state_right, block_right, state_in_order, ask_state, ask_block}
+use Rattle.model.specs.Questions.{areas_right, state_right, block_right, state_in_order, ask_state, ask_block}
 use Rattle.model_laws.proofs.state.QuestionLaws.{ask-yes, ask-no}
 use Rattle.model_laws.proofs.state.OrderLaws.{tests}
 

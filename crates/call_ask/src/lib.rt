@@ -1,4 +1,6 @@
 // What a call answers, and the questions that most calls put first.
+#![tactic(auto)]
+
 ghost use Rattle.std.specs.Prelude.{◌≡◌, ◌&&◌, [], eqb, length};
 ghost use Rattle.model.specs.Layout.{log_length_right, data_length_right};
 ghost use Rattle.model.specs.Questions.{ask_state, ask_block, ask_newest, ask_both};

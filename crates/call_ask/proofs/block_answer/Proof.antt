@@ -1,4 +1,6 @@
 -- `call_ask::block_answer` meets its contract: each return follows the tests that led to it. Assumes nothing.
+use mathlib.Core.Bool.{not}
+use mathlib.Core.Path.{ap}
 use native.Mathlib.Omega.{arith}
 use lib.ListN.{length}
 use Rattle.call_ask.proofs.LengthTests.{sizes, block-lengths-no, block-length-no, block-order-no, block-all}
@@ -6,47 +8,45 @@ use borrow.Author.Rules.{rules}
 use Rattle.call_ask.proofs.block_answer.Statement.{statement}
 use Rattle.call_ask.proofs.block_answer.Tie as tie
 
-lengths-right-requires : tie.Need-lengths-right-requires
+lengths-right-requires : tie.Need-lengths_right-requires
 lengths-right-requires c κs = search rules
 
-returns : tie.Need-returns
-returns c = block-lengths-no _ _ _ c.before.lengths-right.ensures c.if1.true
+returns : tie.Need-returns-then-not-lengths_right
+returns c = block-lengths-no _ _ _ c.lengths_right.ensures (ap not c.if-not-lengths_right.true)
 
-returns-2 : tie.Need-returns-2
-returns-2 c = block-length-no _ _ c.if2.true
+returns-2 : tie.Need-returns-then-block-ne64
+returns-2 c = block-length-no _ _ c.if-block-ne64.true
 
-log-groups-requires : tie.Need-log-groups-requires
+log-groups-requires : tie.Need-log_groups-groups-requires
 log-groups-requires c κs = search rules
 
-data-homes-requires : tie.Need-data-homes-requires
+data-homes-requires : tie.Need-data_homes-homes-requires
 data-homes-requires c κs = search rules
 
-whole-in-order-requires : tie.Need-whole-in-order-requires
+whole-in-order-requires : tie.Need-whole_in_order-requires
 whole-in-order-requires c κs =
-    let a = c.before.before.before.before.before.before.before.before.before.args in
-    let s = sizes (length a.log.now) (length a.area.now) (length a.state.now) _ c.before.before.before.before.lengths-right.ensures c.before.before.before.if1.false in
+    let a = c.args in
+    let s = sizes (length a.log.now) (length a.area.now) (length a.state.now) _ c.lengths_right.ensures (ap not c.if-not-lengths_right.false) in
     omega arith
 
-returns-3 : tie.Need-returns-3
+returns-3 : tie.Need-returns-then-not-whole_in_order
 returns-3 c =
-    let k = c.before.before.before in
-    block-order-no _ _ _ _ _ _ k.before.before.before.lengths-right.ensures k.before.before.if1.false k.before.if2.false
-    k.log-groups.ensures
-    c.before.before.data-homes.ensures
-    c.before.whole-in-order.ensures
-    c.if3.true
+    block-order-no _ _ _ _ _ _ c.lengths_right.ensures (ap not c.if-not-lengths_right.false) c.if-block-ne64.false
+    c.log_groups-groups.ensures
+    c.data_homes-homes.ensures
+    c.whole_in_order.ensures
+    (ap not c.if-not-whole_in_order.true)
 
-returns-4 : tie.Need-returns-4
+returns-4 : tie.Need-returns
 returns-4 c =
-    let k = c.before.before.before in
-    block-all _ _ _ _ _ _ k.before.before.before.lengths-right.ensures k.before.before.if1.false k.before.if2.false
-    k.log-groups.ensures
-    c.before.before.data-homes.ensures
-    c.before.whole-in-order.ensures
-    c.if3.false
+    block-all _ _ _ _ _ _ c.lengths_right.ensures (ap not c.if-not-lengths_right.false) c.if-block-ne64.false
+    c.log_groups-groups.ensures
+    c.data_homes-homes.ensures
+    c.whole_in_order.ensures
+    (ap not c.if-not-whole_in_order.false)
 
-pub block-answer-spec : {M : Type 1} → statement M
-block-answer-spec =
+pub block_answer_spec : {M : Type 1} → statement M
+block_answer_spec =
     tie.close
     (tie.spec
     lengths-right-requires

@@ -6,22 +6,21 @@ use Rattle.call_ask.proofs.NewestAnswers.{homes-few, both-unasked, newest-length
 use Rattle.call_ask.proofs.both_answer.Statement.{statement}
 use Rattle.call_ask.proofs.both_answer.Tie as tie
 
-data-homes-requires : tie.Need-data-homes-requires
+data-homes-requires : tie.Need-data_homes-requires
 data-homes-requires c κs = search rules
 
-mul-if1 : tie.Need-overflow-mul-if1
-mul-if1 c = omega (arith, homes-few _ _ c.data-homes.ensures)
+mul-if1 : tie.Need-overflow_mul-data_homes
+mul-if1 c = omega (arith, homes-few _ _ c.data_homes.ensures)
 
-returns : tie.Need-returns
-returns c = sym (both-stops _ _ (newest-other _ _ c.before.data-homes.ensures c.if1.true))
+returns : tie.Need-returns-then-newest-data_homes
+returns c = sym (both-stops _ _ (newest-other _ _ c.data_homes.ensures c.if-newest-data_homes.true))
 
-block-answer-requires : tie.Need-block-answer-requires
+block-answer-requires : tie.Need-block_answer-requires
 block-answer-requires c κs = search rules
 
-returns-2 : tie.Need-returns-2
+returns-2 : tie.Need-returns
 returns-2 c =
-    let d = c.before.before in
-    c.block-answer.ensures ∙ both-unasked _ _ _ _ _ _ ∙ sym (both-asks _ _ (newest-length _ _ d.data-homes.ensures c.before.if1.false))
+    c.block_answer.ensures ∙ both-unasked _ _ _ _ _ _ ∙ sym (both-asks _ _ (newest-length _ _ c.data_homes.ensures c.if-newest-data_homes.false))
 
-pub both-answer-spec : {M : Type 1} → statement M
-both-answer-spec = tie.close (tie.spec data-homes-requires mul-if1 returns block-answer-requires returns-2)
+pub both_answer_spec : {M : Type 1} → statement M
+both_answer_spec = tie.close (tie.spec data-homes-requires mul-if1 returns block-answer-requires returns-2)
