@@ -1,10 +1,10 @@
 // The store object as a machine for a driver: an operation is asked for, and each turn answers with what the driver is to do next. No callback, no heap:
 // what it keeps between two turns stands in a control block that the caller lends.
-mod asks;
+pub mod asks;
 mod calls;
 mod fields;
 mod moves;
-mod next;
+pub mod next;
 mod turns;
 
 // What the control block holds, eight bytes each.
