@@ -1,33 +1,30 @@
 -- A board in good condition and the world of its bare calls: copies, book and medium agree, and what is left of the batch in hand are the motions to come.
-use Prim.Native.Nat.{ℕ, zero, suc, ◌+◌, ◌*◌, ◌/◌, ◌≤◌, ◌<◌}
+use Prim.Native.Nat.{ℕ, zero, suc, ◌+◌, ◌*◌, ◌/◌, ◌≤◌}
 use mathlib.Core.Path.{◌≡◌, refl, sym, ap, ◌∙◌, subst}
 use mathlib.Core.Logic.{◌⊎◌, inl, inr}
-use mathlib.Core.Bool.{Bool, true, false, cond, not, false≢true}
-use mathlib.Core.List.{List, [], ◌∷◌, ◌++◌, append-nil, append_assoc}
-use mathlib.Core.Option.{Option, none, some}
+use mathlib.Core.Bool.{Bool, true, false, not, false≢true}
+use mathlib.Core.List.{List, [], ◌∷◌, ◌++◌, append-nil}
+use mathlib.Core.Option.{some}
 use native.Mathlib.Omega.{arith}
-use lib.Dec.{eqb, ltb}
-use lib.ListN.{length, take, length-append}
-use borrow.Author.Tests.{eqb-true, ltb-true, ltb-false}
+use lib.ListN.{length, take}
 use Rattle.model.specs.Bytes.{part}
 use Rattle.model.specs.Batch.{Record, GW, HW, KW, FN, batch_bytes, read_batch, read_records}
 use Rattle.model.specs.State.{state_of}
-use Rattle.model.specs.Book.{Book}
 use Rattle.model.specs.Calls.{Outcome, size_of, done as done_call}
 use Rattle.model.specs.Crash.{Memory, fences}
 use Rattle.model.specs.History.{Call, call, World, ends, step, is_opening, Allowed}
 use Rattle.abstract_store.specs.Store.{Store, follow}
 use Rattle.model_laws.proofs.trace.CrashLaws.{fences-append}
-use Rattle.theorems.proofs.invariant.Invariant.{Sizes, Running}
+use Rattle.theorems.proofs.invariant.Invariant.{Sizes}
 use Rattle.theorems.proofs.steps.RefusalLaws.{step-refused}
-use Rattle.theorems.proofs.steps.Rows.{Row, row_of, ends-row, row-answer, row_done}
-use Rattle.object_runner.proofs.CallWrites.{Wrote, call-wrote}
+use Rattle.theorems.proofs.steps.Rows.{row_of, ends-row, row-answer, row_done}
+use Rattle.object_runner.proofs.CallWrites.{call-wrote}
 use Rattle.object.specs.Medium.{Grain, words, blocks, Medium}
-use Rattle.object.specs.Order.{Motion, put, wait, motions, moved}
+use Rattle.object.specs.Order.{Motion, motions, moved}
 use Rattle.object.specs.Runner.{Carried}
 use Rattle.object_runner.specs.declared.Cursor.{Cursor}
 use Rattle.object_runner.specs.Next.{cursor}
-use Rattle.object_runner.specs.Moves.{landing_of, headed_at, headed_after, waiting_after, Due, Fitting, Hands}
+use Rattle.object_runner.specs.Moves.{landing_of, headed_at, headed_after, waiting_after, Due, Hands}
 use Rattle.object_runner.specs.Always.{batch_of, records_of, next_of, headed_before, BatchDue}
 use Rattle.object_runner.proofs.MovesHold.{runner-moves}
 use Rattle.object_runner.proofs.GoesOnHolds.{blocks-due, motions-go-on}
@@ -38,7 +35,7 @@ use Rattle.object_machine.specs.declared.Control.{Control}
 use Rattle.object_machine.specs.Next.{Lent}
 use Rattle.object_board.specs.Board.{Board, in_hand, fed_by}
 use Rattle.object_board.proofs.HandLaws.{end-hands, hands_end, hands-few}
-use Rattle.object_board.proofs.MadeLaws.{SameEnd, Still, outcome-room}
+use Rattle.object_board.proofs.MadeLaws.{SameEnd, outcome-room}
 use Rattle.object_board.proofs.StepLaws.{Stepped, stepped, next_grows, front_long, front-is}
 use Rattle.object_board.proofs.Ways.{Way, way-call, way-running}
 

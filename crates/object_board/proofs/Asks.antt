@@ -1,31 +1,25 @@
 -- Operations asked for, and those that are done at once.
-use Prim.Native.Nat.{ℕ, zero, suc, ◌+◌, ◌*◌, ◌/◌, ◌≤◌, ◌<◌}
-use mathlib.Core.Path.{◌≡◌, refl, sym, ap, ◌∙◌, subst}
+use Prim.Native.Nat.{ℕ, zero, suc, ◌≤◌}
+use mathlib.Core.Path.{◌≡◌, refl, sym, ap, ◌∙◌}
 use mathlib.Core.Logic.{◌⊎◌, inl, inr}
-use mathlib.Core.Bool.{Bool, true, false, cond, not, ◌&&◌, ◌||◌, false≢true}
-use mathlib.Core.List.{List, [], ◌∷◌, ◌++◌, append-nil}
-use mathlib.Core.Option.{Option, none, some}
+use mathlib.Core.Bool.{Bool, true, false, cond, false≢true}
+use mathlib.Core.List.{List, []}
 use native.Mathlib.Omega.{arith}
-use lib.Dec.{eqb, leb, ltb}
-use lib.ListN.{length, take}
-use borrow.Author.Tests.{eqb-true, eqb-false, eq-eqb, ne_eqb, le-leb, lt-leb}
-use Rattle.model.specs.Book.{Book}
-use Rattle.model.specs.History.{World}
+use lib.Dec.{eqb}
+use borrow.Author.Tests.{eqb-true, eqb-false, ne_eqb, le-leb, lt-leb}
 use Rattle.theorems.proofs.invariant.Invariant.{Sizes}
 use Rattle.object.specs.Medium.{Grain, Medium}
 use Rattle.object.specs.Order.{Motion, moved}
-use Rattle.object_runner.specs.Moves.{landing_of}
 use Rattle.object_machine.specs.declared.Control.{Control}
-use Rattle.object_machine.specs.declared.Turn.{Turn}
-use Rattle.object_machine.specs.Control.{closed, ready, failed, known, with_ask}
-use Rattle.object_machine.specs.Moves.{done, pass}
-use Rattle.object_machine.specs.Next.{Lent, lent_to, shut, refusal, ask_answer, condition_for}
-use Rattle.object_board.specs.Board.{Board, asks, is_over, loads_log, loads_area, taken, refused_to, ask_for, with_medium, happens, is_operation, Shut}
-use Rattle.object_board.proofs.Along.{NewBatch, Cursors, Along, all-out, Stayed, stayed}
+use Rattle.object_machine.specs.Control.{known, with_ask}
+use Rattle.object_machine.specs.Moves.{done}
+use Rattle.object_machine.specs.Next.{shut, refusal, ask_answer, condition_for}
+use Rattle.object_board.specs.Board.{Board, asks, is_over, taken, refused_to, ask_for, with_medium, happens, is_operation, Shut}
+use Rattle.object_board.proofs.Along.{all-out, Stayed, stayed}
 use Rattle.object_board.proofs.Stages.{sync_stage, other_stage, is_other, other-not, other-op}
-use Rattle.object_board.proofs.Follows.{due_of, ahead_of, Kind, idle, other, sync, opening, Facts, Follows, quiet-follows}
+use Rattle.object_board.proofs.Follows.{due_of, ahead_of, Kind, other, sync, Follows, quiet-follows}
 use Rattle.object_board.proofs.Calling.{quiet_pass}
-use Rattle.object_board.proofs.Good.{Sized, Under, Kept, Waiting, rests, asked, loads, Behind, Loaded, Good, behind, loaded, follows, under, kept, under-like}
+use Rattle.object_board.proofs.Good.{asked, Good, behind, loaded, follows, under, kept, under-like}
 use Rattle.object_board.proofs.Happens.{told-good}
 
 no-op : (n : ℕ) → 20 ≤ n → is_operation n ≡ false

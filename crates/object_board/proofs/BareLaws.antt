@@ -1,19 +1,17 @@
 -- What the board needs of the bare calls' histories, machine or none: a loss of power or of a driver, a sync, an opening's answers, lengths.
-use Prim.Native.Nat.{ℕ, zero, suc, ◌+◌, ◌*◌, ◌^◌, ◌≤◌}
-use mathlib.Core.Path.{◌≡◌, refl, sym, ap, ◌∙◌, subst}
-use mathlib.Core.Logic.{◌⊎◌, inl, inr}
-use mathlib.Core.Bool.{Bool, true, false, cond, ◌&&◌, ◌||◌, false≢true}
-use mathlib.Core.List.{List, [], ◌∷◌, ◌++◌, append-nil}
+use Prim.Native.Nat.{ℕ, zero, suc, ◌+◌, ◌*◌, ◌≤◌}
+use mathlib.Core.Path.{◌≡◌, refl, sym, ap, subst}
+use mathlib.Core.Bool.{Bool, true, false, cond, ◌&&◌, ◌||◌}
+use mathlib.Core.List.{List, [], ◌∷◌, ◌++◌}
 use native.Mathlib.Omega.{arith}
-use lib.Dec.{eqb, leb}
-use lib.ListN.{length, take, drop, length-append}
-use borrow.Author.Tests.{eq-eqb, le-leb}
-use Rattle.model.specs.Book.{Commit, Book, run, ended, owed_by, all_survive}
-use Rattle.model.specs.Book as book
+use lib.Dec.{leb}
+use lib.ListN.{length, take, length-append}
+use borrow.Author.Tests.{le-leb}
+use Rattle.model.specs.Book.{Commit, run, owed_by, all_survive}
 use Rattle.model.specs.Effects.{marked}
 use Rattle.model_laws.proofs.trace.Trace.{Ev, hist, closer_of}
 use Rattle.model_laws.proofs.trace.TraceLaws.{All, Falling, Long, done-falling, done-long}
-use Rattle.theorems.proofs.invariant.Invariant.{Sizes, Matches, OldCommits, Commits}
+use Rattle.theorems.proofs.invariant.Invariant.{Matches, OldCommits, Commits}
 use Rattle.theorems.proofs.demands.Yields.{PastOwed}
 use Rattle.object_board.specs.Board.{AllOwed}
 

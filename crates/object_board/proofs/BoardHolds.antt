@@ -1,23 +1,19 @@
 -- Demand 4.
-use Prim.Native.Nat.{ℕ, zero, suc, ◌+◌, ◌*◌, ◌≤◌}
-use mathlib.Core.Path.{◌≡◌, refl, sym, ap, ◌∙◌, subst}
-use mathlib.Core.Logic.{◌⊎◌, inl, inr}
-use mathlib.Core.Bool.{Bool, true, false, not, false≢true}
+use Prim.Native.Nat.{ℕ}
+use mathlib.Core.Path.{◌≡◌, refl, sym, ◌∙◌, subst}
+use mathlib.Core.Logic.{inl}
+use mathlib.Core.Bool.{Bool, false, false≢true}
 use mathlib.Core.List.{List, [], ◌∷◌}
-use native.Mathlib.Omega.{arith}
-use Rattle.model.specs.Book as book
-use Rattle.model.specs.History.{World, Formatting, after_format, unopened}
+use Rattle.model.specs.History.{Formatting, after_format, unopened}
 use Rattle.abstract_store.specs.Store.{new_store}
 use Rattle.theorems.proofs.invariant.Invariant.{Sizes}
 use Rattle.theorems.proofs.steps.FormatRuns.{sizes}
 use Rattle.object.specs.Medium.{Grain}
-use Rattle.object.specs.Order.{motions, moved}
-use Rattle.object_machine.specs.Moves.{done, load, pass}
+use Rattle.object.specs.Order.{moved}
 use Rattle.object_board.specs.Board.{Board, Happening, asks, begins, aborts, reads, goes, breaks, cuts, is_over, loads_log, is_loss, happens, Started, Driven, Leaves, Right, AllRight, board_of, Demand4}
 use Rattle.object_board.proofs.Ways.{way-first}
-use Rattle.object_board.proofs.Follows.{Follows}
-use Rattle.object_board.proofs.Good.{Under, Kept, Waiting, rests, asked, loads, Behind, Loaded, Good, behind, loaded, follows, under}
-use Rattle.object_board.proofs.Happens.{Losing, losing, cuts-good, breaks-good, follows-goes, none-carried, over_done, started-kept, fresh-is}
+use Rattle.object_board.proofs.Good.{Under, Waiting, rests, asked, loads, Behind, Good, behind, loaded, follows, under}
+use Rattle.object_board.proofs.Happens.{losing, cuts-good, breaks-good, follows-goes, none-carried, over_done, started-kept, fresh-is}
 use Rattle.object_board.proofs.Loads.{asked-goes, loads-goes, is-loss, pass-quiet}
 use Rattle.object_board.proofs.Opening.{loaded-goes, no-loss}
 use Rattle.object_board.proofs.Asks.{asks-good, asks-right}

@@ -1,26 +1,26 @@
 -- A turn with nothing left of the batch in hand: a call of the store, or none.
-use Prim.Native.Nat.{ℕ, zero, suc, ◌+◌, ◌*◌, ◌≤◌, ◌<◌}
+use Prim.Native.Nat.{ℕ, zero, suc, ◌+◌, ◌*◌, ◌≤◌}
 use mathlib.Core.Path.{◌≡◌, refl, sym, ap, ◌∙◌, subst}
 use mathlib.Core.Logic.{◌⊎◌, inl, inr}
-use mathlib.Core.Bool.{Bool, true, false, cond, not, false≢true}
-use mathlib.Core.List.{List, [], ◌∷◌, ◌++◌}
+use mathlib.Core.Bool.{Bool, true, false, not, false≢true}
+use mathlib.Core.List.{List, []}
 use mathlib.Core.Option.{Option, none, some}
 use native.Mathlib.Omega.{arith}
 use native.Mathlib.Decide.{dec_le}
-use lib.Dec.{eqb, leb}
+use lib.Dec.{eqb}
 use lib.ListN.{length, get_or}
-use borrow.Author.Tests.{eqb-true, eqb-false, ne_eqb}
+use borrow.Author.Tests.{eqb-true, eqb-false}
 use Rattle.model.specs.Layout.{home_count}
 use Rattle.model.specs.State.{state_of}
 use Rattle.model.specs.declared.State.{State}
-use Rattle.model.specs.Effects.{Given, Effect}
+use Rattle.model.specs.Effects.{Given}
 use Rattle.model.specs.Calls.{Outcome, outcome, refused, done as done_call}
 use Rattle.model.specs.Book.{Book, Commit, homes_after, owed_by, with_commits, submit}
 use Rattle.model.specs.Book as book
 use Rattle.model.specs.History.{Call, confirm, flush, call, World, ends, step, feed, feed_change, is_opening, Allowed}
 use Rattle.abstract_store.specs.Store.{Store, Reply, reply, reply_of, follow, after_reply, after_done, numbered, fenced_after, next_of, next_group, group_of_first, told}
 use Rattle.theorems.proofs.invariant.Invariant.{Sizes}
-use Rattle.theorems.proofs.steps.Rows.{Row, row_of, ends-row}
+use Rattle.theorems.proofs.steps.Rows.{row_of, ends-row}
 use Rattle.call_ask.specs.Lent.{lent_all}
 use Rattle.object.specs.Medium.{Grain}
 use Rattle.object_machine.specs.declared.Control.{Control}
@@ -35,9 +35,9 @@ use Rattle.object_board.specs.Board.{Board, in_hand, is_over, loads_log, loads_a
 use Rattle.object_board.proofs.MadeLaws.{SameEnd, Still, Made, unmade, made_by}
 use Rattle.object_board.proofs.MadeLaws as makings
 use Rattle.object_board.proofs.StepLaws.{front-whole, stepped}
-use Rattle.object_board.proofs.Ways.{Way, way-answers, all-owed}
+use Rattle.object_board.proofs.Ways.{way-answers, all-owed}
 use Rattle.object_board.proofs.Along.{SameCursor, NewBatch, Cursors, Along, Out, all-out, passed-fences, Stayed, stayed, Went, went, went-none}
-use Rattle.object_board.proofs.MoveLaws.{CalledTo, over, on, room, fence, no as refuse, UncalledTo, load-log, load-area, opens, ends as ends_all, settles, again, gives_up, gone}
+use Rattle.object_board.proofs.MoveLaws.{CalledTo, over, on, room, fence, no as refuse, UncalledTo, load-log, load-area, opens, ends as ends_all, settles, again, gives_up}
 use Rattle.object_board.proofs.Stages.{sync_stage, other_stage, is_other, sync-after, other_after, not-opening, no_call, flush-call, confirm-call, sync-not, other-not, other-op}
 use Rattle.object_board.proofs.Turns.{moves_to, Calls, calls-next, made-call, follows-called, follows-uncalled, Stays, over-same, on-new, room-same, stage-same, uncalled-cursors}
 use Rattle.object_board.proofs.Follows.{due_of, Kind, idle, other, sync, opening, Quiet, Facts, Follows, quiet-follows}

@@ -1,54 +1,36 @@
 -- A board whose store is open, or opens: a turn keeps it so, and what it tells is right.
-use Prim.Native.Nat.{ℕ, zero, suc, ◌+◌, ◌*◌, ◌≤◌, ◌<◌}
+use Prim.Native.Nat.{ℕ, ◌≤◌, ◌<◌}
 use mathlib.Core.Path.{◌≡◌, refl, sym, ap, ◌∙◌, subst}
 use mathlib.Core.Logic.{◌⊎◌, inl, inr}
-use mathlib.Core.Bool.{Bool, true, false, cond, not, ◌&&◌, ◌||◌, false≢true}
+use mathlib.Core.Bool.{true, false, cond, false≢true}
 use mathlib.Core.List.{List, [], ◌∷◌, ◌++◌, append-nil, append_assoc}
-use mathlib.Core.Option.{Option, none, some}
 use native.Mathlib.Omega.{arith}
-use native.Mathlib.Decide.{dec_le, dec_lt}
-use lib.Dec.{eqb, leb, ltb}
-use lib.ListN.{length, take, length-append, get_or}
-use borrow.Author.Tests.{eqb-true, eqb-false, ne_eqb}
-use Rattle.model.specs.Bytes.{part}
+use lib.Dec.{eqb}
+use lib.ListN.{length, length-append}
 use Rattle.model.specs.Layout.{group_count, home_count}
 use Rattle.model.specs.State.{state_of}
-use Rattle.model.specs.Effects.{Given}
-use Rattle.model.specs.Calls.{Outcome, outcome, refused, done as done_call}
-use Rattle.model.specs.Crash.{Memory, Piece, fences}
-use Rattle.model.specs.Book.{Book, Commit, homes_after, owed_by, with_commits, submit}
-use Rattle.model.specs.Book as book
-use Rattle.model.specs.History.{Call, confirm, flush, call, World, ends, step, feed, feed_change, is_opening, Allowed}
-use Rattle.abstract_store.specs.Store.{Store, Reply, reply, reply_of, follow, after_reply, after_done, numbered, fenced_after, next_of, next_group, group_of_first, told}
+use Rattle.model.specs.Crash.{Piece}
+use Rattle.model.specs.Book.{homes_after}
+use Rattle.model.specs.History.{World, step}
+use Rattle.abstract_store.specs.Store.{Store, next_of}
 use Rattle.model_laws.proofs.bytes.LayoutLaws.{groups-in, homes_in}
-use Rattle.theorems.proofs.invariant.Invariant.{Sizes, Running}
-use Rattle.theorems.proofs.steps.Rows.{Row, row_of, ends-row}
-use Rattle.call_ask.specs.Lent.{lent_all}
-use Rattle.object.specs.Medium.{Grain, Medium, writes}
-use Rattle.object.specs.Medium as medium
-use Rattle.object.specs.Order.{Motion, put, wait, motions, moves, moved}
+use Rattle.theorems.proofs.invariant.Invariant.{Sizes}
+use Rattle.object.specs.Medium.{Grain, Medium}
+use Rattle.object.specs.Order.{Motion, put, wait, moved}
 use Rattle.object.specs.Runner.{Carried}
 use Rattle.object_runner.specs.declared.Action.{Action}
 use Rattle.object_runner.specs.Next.{cursor, next_action}
 use Rattle.object_runner.specs.Moves.{landing_of, Does, Hands}
 use Rattle.object_runner.specs.Moves as runner
 use Rattle.object_machine.specs.declared.Control.{Control}
-use Rattle.object_machine.specs.declared.Turn.{Turn}
-use Rattle.object_machine.specs.declared.Moved.{Moved}
-use Rattle.object_machine.specs.Control.{with_cursor, with_stage, with_batch, with_condition, with_room}
-use Rattle.object_machine.specs.Moves.{done, pass, full, after}
-use Rattle.object_machine.specs.Moves as machine
-use Rattle.object_machine.specs.Next.{Lent, given, makes}
-use Rattle.object_board.specs.Board.{Board, in_hand, piece_of, is_over, loads_log, loads_area, call_of, fed_by, call_for, made, made_call, next, with_medium, AllOwed, Tells}
+use Rattle.object_machine.specs.Control.{with_cursor}
+use Rattle.object_board.specs.Board.{Board, in_hand, piece_of, is_over, loads_log, loads_area, next, with_medium, Tells}
 use Rattle.object_board.proofs.HandLaws.{moved-append, hands-some}
-use Rattle.object_board.proofs.MadeLaws.{SameEnd, Still, Made, unmade, made_by}
-use Rattle.object_board.proofs.MadeLaws as makings
-use Rattle.object_board.proofs.StepLaws.{front-few, front-whole}
-use Rattle.object_board.proofs.Ways.{Way, way-answers, way-running, all-owed}
-use Rattle.object_board.proofs.Along.{cursor_of, first, SameCursor, NewBatch, Cursors, Copies, Ahead, Along, Out, all-out, unmade-along, made-along}
-use Rattle.object_board.proofs.MoveLaws.{CalledTo, over, on, room, fence, no, UncalledTo, load-log, load-area, opens, ends as ends_all, settles, again, gives_up, gone}
-use Rattle.object_board.proofs.Stages.{sync_stage, other_stage, is_other, sync-after, other_after, not-opening, no_call, flush-call, confirm-call, sync-not, other-not, other-op}
-use Rattle.object_board.proofs.Turns.{turn_of, asks_for, handed_to, handed-next, piece_is, hand-kept, moves_to, Calls, calls-next, made-call, follows-called, follows-uncalled, Stays}
+use Rattle.object_board.proofs.StepLaws.{front-few}
+use Rattle.object_board.proofs.Ways.{way-running}
+use Rattle.object_board.proofs.Along.{cursor_of, first, Along}
+use Rattle.object_board.proofs.Stages.{sync_stage, other_stage, is_other}
+use Rattle.object_board.proofs.Turns.{turn_of, asks_for, handed_to, handed-next, piece_is}
 
 -- what the driver has been asked to do, as motions
 unfoldable pub due_of : Board → List Motion

@@ -1,33 +1,26 @@
 -- What holds of every board: a store that is open, one that waits for its loads, or one whose condition is known by its medium alone.
-use Prim.Native.Nat.{ℕ, zero, suc, ◌+◌, ◌*◌, ◌≤◌, ◌<◌}
+use Prim.Native.Nat.{ℕ, ◌+◌, ◌*◌, ◌≤◌}
 use mathlib.Core.Path.{◌≡◌, refl, sym, ap, ◌∙◌, subst}
-use mathlib.Core.Logic.{◌⊎◌, inl, inr}
-use mathlib.Core.Bool.{Bool, true, false, cond, not, ◌&&◌, ◌||◌, false≢true}
-use mathlib.Core.List.{List, [], ◌∷◌, ◌++◌, append-nil, append_assoc}
-use mathlib.Core.Option.{Option, none, some}
-use native.Mathlib.Omega.{arith}
-use lib.Dec.{eqb, leb, ltb}
-use lib.ListN.{length, take, drop, length-append}
-use borrow.Author.Tests.{eqb-true, eqb-false, ne_eqb}
+use mathlib.Core.Logic.{◌⊎◌}
+use mathlib.Core.Bool.{true, false}
+use mathlib.Core.List.{List, [], ◌∷◌, ◌++◌, append_assoc}
+use lib.ListN.{length, take}
 use Rattle.model.specs.Bytes.{part}
 use Rattle.model.specs.State.{state_of}
-use Rattle.model.specs.Book.{Book}
-use Rattle.model.specs.Crash.{Memory}
-use Rattle.model.specs.History.{World, Formatting, after_format}
+use Rattle.model.specs.History.{World}
 use Rattle.abstract_store.specs.Store.{Store}
 use Rattle.theorems.proofs.invariant.Invariant.{Sizes}
-use Rattle.object.specs.Medium.{Grain, Medium}
+use Rattle.object.specs.Medium.{Grain}
 use Rattle.object.specs.Order.{Motion, motions, moved}
 use Rattle.object.specs.Runner.{Carried}
 use Rattle.object_runner.specs.Moves.{landing_of, Hands}
 use Rattle.object_machine.specs.declared.Control.{Control}
-use Rattle.object_machine.specs.declared.Turn.{Turn}
-use Rattle.object_machine.specs.Moves.{done, load, pass}
+use Rattle.object_machine.specs.Moves.{load, pass}
 use Rattle.object_machine.specs.Next.{Lent}
-use Rattle.object_board.specs.Board.{Board, in_hand, is_over, loads_log, loads_area, next, with_medium, Tells}
+use Rattle.object_board.specs.Board.{Board, in_hand, is_over, next, with_medium, Tells}
 use Rattle.object_board.proofs.Ways.{Way, way-running}
-use Rattle.object_board.proofs.Along.{cursor_of, first, Copies, Along, all-out}
-use Rattle.object_board.proofs.Follows.{due_of, ahead_of, Kind, Facts, Follows, handing-next}
+use Rattle.object_board.proofs.Along.{cursor_of, first, Copies, Along}
+use Rattle.object_board.proofs.Follows.{due_of, ahead_of, Facts, Follows, handing-next}
 use Rattle.object_board.proofs.Calling.{calling-next}
 
 module _ (l : Grain) (G D : ℕ) (z : Sizes G D) where

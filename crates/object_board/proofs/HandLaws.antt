@@ -1,10 +1,10 @@
 -- When the runner has handed all of a batch out, and when not.
 use Prim.Native.Nat.{ℕ, ◌+◌, ◌*◌, ◌%◌, ◌≤◌, ◌<◌}
 use Rattle.model.specs.Layout.{group_offset}
-use mathlib.Core.Path.{◌≡◌, refl, sym, ap, ◌∙◌}
+use mathlib.Core.Path.{◌≡◌, refl, ap, ◌∙◌}
 use mathlib.Core.Logic.{◌⊎◌, inl, inr}
 use mathlib.Core.Bool.{Bool, true, false, cond, ◌&&◌, false≢true}
-use mathlib.Core.List.{List, [], ◌∷◌, ◌++◌, append_assoc}
+use mathlib.Core.List.{List, [], ◌∷◌, ◌++◌}
 use native.Mathlib.Omega.{arith}
 use lib.Dec.{eqb, leb, ltb}
 use lib.ListN.{length, drop}
@@ -16,7 +16,7 @@ use Rattle.object.specs.Order.{Motion, put, wait, moves, moved}
 use Rattle.object_runner.specs.declared.Cursor.{Cursor}
 use Rattle.object_runner.specs.declared.Action.{Action}
 use Rattle.object_runner.specs.Next.{cursor, past, log_area, homes_area, from_batch, from_copy, fencing, done, bare, write, refused, parts, group_action, home_action, wiping, whole_header, wipe_action, header_action, due, due_action, fence_action, record_action, asked, next_action}
-use Rattle.object_runner.specs.Moves.{landing_of, Does, Hands}
+use Rattle.object_runner.specs.Moves.{landing_of, Hands}
 
 -- motions one behind the other
 

@@ -1,38 +1,34 @@
 -- Each happening leaves a good board, and makes true what is claimed of it.
-use Prim.Native.Nat.{ℕ, zero, suc, ◌+◌, ◌*◌, ◌≤◌, ◌<◌}
+use Prim.Native.Nat.{ℕ, suc, ◌≤◌}
 use mathlib.Core.Path.{◌≡◌, refl, sym, ap, ◌∙◌, subst}
-use mathlib.Core.Logic.{◌⊎◌, inl, inr}
-use mathlib.Core.Bool.{Bool, true, false, cond, not, ◌&&◌, ◌||◌, false≢true}
-use mathlib.Core.List.{List, [], ◌∷◌, ◌++◌, append-nil, append_assoc}
-use mathlib.Core.Option.{Option, none, some}
+use mathlib.Core.Logic.{inl, inr}
+use mathlib.Core.Bool.{Bool, true, false, cond, false≢true}
+use mathlib.Core.List.{List, [], ◌∷◌, ◌++◌}
 use native.Mathlib.Omega.{arith}
-use lib.Dec.{eqb, leb, ltb}
-use lib.ListN.{length, take, drop, length-append}
+use lib.Dec.{eqb}
+use lib.ListN.{length, take, drop}
 use borrow.Author.Tests.{eqb-true, eqb-false, eq-eqb, ne_eqb}
-use Rattle.model.specs.State.{state_of}
 use Rattle.model.specs.Book.{Book}
 use Rattle.model.specs.Crash.{Memory}
 use Rattle.model.specs.Crash as crash
 use Rattle.model.specs.DemandThree.{NoneOwed}
-use Rattle.model.specs.History.{World, Formatting, after_format}
-use Rattle.abstract_store.specs.Store.{Store, new_store}
+use Rattle.model.specs.History.{World}
+use Rattle.abstract_store.specs.Store.{Store}
 use Rattle.theorems.proofs.invariant.Invariant.{Sizes}
 use Rattle.object.specs.Medium.{Grain, Medium, writes, fences, loses}
-use Rattle.object.specs.Order.{Motion, put, wait, motions, moves, moved, Left}
+use Rattle.object.specs.Order.{Motion, put, wait, motions, moves, moved}
 use Rattle.object.specs.Runner.{Carried}
-use Rattle.object_runner.specs.Moves.{landing_of}
 use Rattle.object_machine.specs.declared.Control.{Control}
 use Rattle.object_machine.specs.declared.Turn.{Turn}
 use Rattle.object_machine.specs.Control.{failed, fresh, with_condition}
 use Rattle.object_machine.specs.Moves.{done, load, pass}
 use Rattle.object_machine.specs.Moves as machine
-use Rattle.object_machine.specs.Next.{Lent, goes as goes_past, stays, fails}
-use Rattle.object_board.specs.Board.{Board, Happening, asks, begins, aborts, reads, goes, breaks, cuts, in_hand, piece_of, is_over, loads_log, loads_area, cut_to, fed_by, made_call, left, with_book, next, with_medium, refused_to, attempted, carried, copied, keeps, goes_further, happens, Started, Driven, Leaves, Right, Tells}
-use Rattle.object_board.proofs.HandLaws.{moved-append}
-use Rattle.object_board.proofs.Ways.{Way, way-running, Lost, loses-way}
-use Rattle.object_board.proofs.Along.{first, Along, all-out}
-use Rattle.object_board.proofs.Follows.{due_of, ahead_of, Kind, Facts, Follows}
-use Rattle.object_board.proofs.Good.{goes-next, take-front, Sized, Under, Kept, Waiting, rests, asked, loads, Behind, Loaded, Good, behind, loaded, follows, under, kept, under-like, kept-like, along-like, world-like}
+use Rattle.object_machine.specs.Next.{goes as goes_past, stays, fails}
+use Rattle.object_board.specs.Board.{Board, goes, breaks, cuts, in_hand, piece_of, is_over, loads_log, loads_area, cut_to, fed_by, made_call, left, with_book, next, with_medium, refused_to, attempted, carried, copied, keeps, goes_further, happens, Started, Tells}
+use Rattle.object_board.proofs.Ways.{Way, loses-way}
+use Rattle.object_board.proofs.Along.{first, Along}
+use Rattle.object_board.proofs.Follows.{due_of, ahead_of, Facts, Follows}
+use Rattle.object_board.proofs.Good.{goes-next, take-front, Sized, Under, Kept, Waiting, rests, asked, loads, Good, behind, loaded, follows, under, kept, under-like, kept-like, along-like}
 
 module _ (l : Grain) (G D : ℕ) (z : Sizes G D) where
   -- ---- a task is told something, and nothing else happens

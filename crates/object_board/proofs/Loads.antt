@@ -1,16 +1,12 @@
 -- The loads of an opening.
-use Prim.Native.Nat.{ℕ, zero, suc, ◌+◌, ◌*◌, ◌≤◌, ◌<◌}
+use Prim.Native.Nat.{ℕ, ◌≤◌}
 use mathlib.Core.Path.{◌≡◌, refl, sym, ap, ◌∙◌, subst}
-use mathlib.Core.Logic.{◌⊎◌, inl, inr}
-use mathlib.Core.Bool.{Bool, true, false, cond, not, ◌&&◌, false≢true}
-use mathlib.Core.List.{List, [], ◌∷◌, ◌++◌}
-use mathlib.Core.Option.{Option, none, some}
+use mathlib.Core.Logic.{inl, inr}
+use mathlib.Core.Bool.{Bool, true, false, false≢true}
+use mathlib.Core.List.{List, []}
+use mathlib.Core.Option.{Option, none}
 use native.Mathlib.Omega.{arith}
-use lib.Dec.{eqb, leb, ltb}
 use lib.ListN.{length}
-use Rattle.model.specs.Calls.{Outcome}
-use Rattle.model.specs.Book.{Book}
-use Rattle.model.specs.Crash.{Memory}
 use Rattle.model.specs.History.{Call, World}
 use Rattle.abstract_store.specs.Store.{Store}
 use Rattle.theorems.proofs.invariant.Invariant.{Sizes, Closed, Invariant}
@@ -26,12 +22,11 @@ use Rattle.object_machine.specs.Next.{Lent, lent_to, given}
 use Rattle.object_board.specs.Board.{Board, goes, is_over, loads_log, loads_area, carried, copied, keeps, goes_further, cut_to, fed_by, made, made_call, call_for, next, with_medium, happens}
 use Rattle.object_board.proofs.MadeLaws.{Still}
 use Rattle.object_board.proofs.Ways.{Way}
-use Rattle.object_board.proofs.Along.{first}
 use Rattle.object_board.proofs.Follows.{due_of, ahead_of}
-use Rattle.object_board.proofs.Calling.{call_none, is_none, still-none, stage-of, MovesOn}
-use Rattle.object_board.proofs.Turns.{moves_to, Calls, calls-next, made-call, moves-log, moves-area, Stays}
-use Rattle.object_board.proofs.Good.{Sized, Under, Kept, Waiting, rests, asked, loads, Behind, Loaded, Good, behind, loaded, follows, under-like}
-use Rattle.object_board.proofs.Happens.{Losing, losing, lost-under, load-none}
+use Rattle.object_board.proofs.Calling.{call_none, is_none, still-none}
+use Rattle.object_board.proofs.Turns.{moves_to, calls-next, made-call, moves-log, moves-area}
+use Rattle.object_board.proofs.Good.{Sized, loads, Behind, Good, behind, loaded, under-like}
+use Rattle.object_board.proofs.Happens.{Losing, lost-under, load-none}
 
 -- a board whose log has been loaded
 unfoldable pub lost_board : Grain → Board → (ℕ → Bool) → ℕ → Board

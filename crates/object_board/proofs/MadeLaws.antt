@@ -1,26 +1,21 @@
 -- The calls that the machine makes by number are those of histories.
 use Prim.Native.Nat.{ℕ, zero, suc, ◌≤◌}
-use mathlib.Core.Path.{◌≡◌, refl, sym, ap, ◌∙◌, subst}
-use mathlib.Core.Logic.{◌⊎◌, inl, inr}
-use mathlib.Core.Bool.{Bool, true, false}
+use mathlib.Core.Path.{◌≡◌, refl, sym, ap, subst}
+use mathlib.Core.Bool.{false}
 use mathlib.Core.List.{List, []}
-use mathlib.Core.Option.{Option, none, some}
+use mathlib.Core.Option.{none, some}
 use native.Mathlib.Omega.{arith}
 use lib.ListN.{length, take}
 use borrow.Author.Tests.{ne_eqb, le-leb, lt-leb}
-use Rattle.model.specs.Bytes.{puts}
 use Rattle.model.specs.Batch.{batch_bytes}
-use Rattle.model.specs.Effects.{Given, Effect, new_state, reserve_effect, confirm_effect, begin_round_effect, open_effect, open_start}
-use Rattle.model.specs.Questions.{reserve_answer, confirm_answer, begin_round_answer}
-use Rattle.model.specs.Calls.{Outcome, refused, done, size_of, outcome, open_call, reserve_call, store_call, commit_call, flush_call, confirm_call, settle_call, trim_call, begin_round_call, step_round_call}
+use Rattle.model.specs.Effects.{Given, Effect, new_state, reserve_effect, confirm_effect, begin_round_effect}
+use Rattle.model.specs.Calls.{Outcome, refused, done, outcome, open_call, reserve_call, store_call, commit_call, flush_call, confirm_call, settle_call, trim_call, begin_round_call, step_round_call}
 use Rattle.model.specs.Facts.{left_with}
 use Rattle.model.specs.History.{World, Call, opening, confirm, reserve, store, commit, flush, settle, begin_round, step_round, trim, ends, change_ends, service_ends, is_opening, loaded}
 use Rattle.model.specs.History as history
 use Rattle.model_laws.proofs.bytes.ByteLaws.{length-puts}
-use Rattle.theorems.specs.Lent.{asked}
 use Rattle.theorems.proofs.facts.AsideHolds.{lent_alike}
-use Rattle.theorems.proofs.steps.Rows.{Row, row_of, ends-row}
-use Rattle.call_ask.specs.Lent.{lent_all, lent}
+use Rattle.call_ask.specs.Lent.{lent_all}
 use Rattle.object_machine.specs.Calls.{beside_batch, beside_state, beside_all, opens, reserves, stores, commits, flushes, confirms, settles, round_begins, round_steps, trims, nothing, writers_call, room_call, most_homes}
 use Rattle.object_machine.specs.Next.{makes}
 use Rattle.object_board.specs.Board.{call_of}

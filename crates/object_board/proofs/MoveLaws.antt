@@ -1,18 +1,14 @@
 -- Where a stage of the machine leads.
-use Prim.Native.Nat.{ℕ, zero, suc, ◌≤◌}
-use mathlib.Core.Path.{◌≡◌, refl, sym, ap, ◌∙◌, subst}
+use Prim.Native.Nat.{ℕ}
+use mathlib.Core.Path.{◌≡◌, refl, sym, ap, ◌∙◌}
 use mathlib.Core.Logic.{◌⊎◌, inl, inr}
-use mathlib.Core.Bool.{Bool, true, false, cond, not, ◌&&◌, ◌||◌, false≢true}
-use mathlib.Core.List.{List, [], ◌∷◌}
-use native.Mathlib.Omega.{arith}
-use lib.Dec.{eqb, leb, ltb}
+use mathlib.Core.Bool.{Bool, true, false, cond, not, ◌&&◌, false≢true}
+use lib.Dec.{eqb}
 use lib.ListN.{get_or}
-use borrow.Author.Tests.{eqb-true, eqb-false, eq-eqb, ne_eqb, leb-true, leb-false}
-use Rattle.model.specs.State.{state_of}
+use borrow.Author.Tests.{eqb-true, eqb-false, eq-eqb}
 use Rattle.model.specs.declared.State.{State}
 use Rattle.model.specs.declared.Holder.{Holder}
 use Rattle.object_machine.specs.declared.Control.{Control}
-use Rattle.object_machine.specs.declared.Turn.{Turn}
 use Rattle.object_machine.specs.declared.Moved.{Moved}
 use Rattle.object_machine.specs.Control.{ready, with_stage, with_condition, with_batch, with_cursor, with_room}
 use Rattle.object_machine.specs.Moves.{done, load, pass, moved, answers, passes, after, goes_further, full, may_make_room, tells_holder, refuses, headed_at, called, settled, gives_up_at, looks, more, uncalled}

@@ -1,21 +1,21 @@
 -- Operations that are done at once: begin, abort, read. They make a call without a batch, and may come while another operation is under way.
-use Prim.Native.Nat.{ℕ, zero, suc, ◌+◌, ◌*◌, ◌/◌, ◌≤◌, ◌<◌}
+use Prim.Native.Nat.{ℕ, zero, suc, ◌/◌}
 use mathlib.Core.Path.{◌≡◌, refl, sym, ap, ◌∙◌, subst}
 use mathlib.Core.Logic.{◌⊎◌, inl, inr}
-use mathlib.Core.Bool.{Bool, true, false, cond, not, false≢true}
-use mathlib.Core.List.{List, [], ◌∷◌, ◌++◌, append-nil}
-use mathlib.Core.Option.{Option, none, some}
+use mathlib.Core.Bool.{Bool, true, false, cond, not}
+use mathlib.Core.List.{List, [], ◌++◌, append-nil}
+use mathlib.Core.Option.{some}
 use native.Mathlib.Omega.{arith}
 use lib.Dec.{eqb}
 use lib.ListN.{length}
-use borrow.Author.Tests.{eqb-true, eqb-false, ne_eqb}
+use borrow.Author.Tests.{eqb-true, eqb-false}
 use Rattle.model.specs.Batch.{Record, batch_bytes, read_batch, read_records}
 use Rattle.model.specs.State.{state_of}
 use Rattle.model.specs.Effects.{Given, Effect, new_state, begin_effect, abort_effect, read_effect}
-use Rattle.model.specs.Calls.{Outcome, outcome, refused, done as done_call, begin_call, abort_call, read_call}
+use Rattle.model.specs.Calls.{Outcome, outcome, refused, done as done_call, begin_call, abort_call}
 use Rattle.model.specs.Book.{Book, Task, with_task, set_task, read_by}
 use Rattle.model.specs.Book as book
-use Rattle.model.specs.Crash.{Memory, fences}
+use Rattle.model.specs.Crash.{Memory}
 use Rattle.model.specs.Facts.{left_with}
 use Rattle.model.specs.History.{Call, begin, abort, read, call, World, ends, service_ends, step, after_call, after_done, after_refused, feed, feed_change, is_opening, is_confirm, Allowed}
 use Rattle.model.specs.History as history
@@ -23,28 +23,26 @@ use Rattle.abstract_store.specs.Store.{Store, follow, after_reply, reply_of, aft
 use Rattle.theorems.specs.Lent.{asked as lent_to₀}
 use Rattle.theorems.proofs.facts.AsideHolds.{lent_alike}
 use Rattle.theorems.proofs.invariant.Invariant.{Sizes}
-use Rattle.theorems.proofs.steps.Rows.{Row, row_of, ends-row}
-use Rattle.object.specs.Medium.{Grain, Medium}
+use Rattle.theorems.proofs.steps.Rows.{row_of, ends-row}
+use Rattle.object.specs.Medium.{Grain}
 use Rattle.object.specs.Order.{Motion, motions, moved}
 use Rattle.object.specs.Runner.{Carried}
 use Rattle.object.proofs.TornClaims.{live_now}
-use Rattle.object_runner.specs.Moves.{landing_of, Hands}
+use Rattle.object_runner.specs.Moves.{Hands}
 use Rattle.object_runner.specs.Always.{batch_of, records_of}
 use Rattle.object_machine.specs.declared.Control.{Control}
-use Rattle.object_machine.specs.declared.Turn.{Turn}
 use Rattle.object_machine.specs.Moves.{done}
-use Rattle.object_machine.specs.Next.{Lent, lent_to, shut, refusal}
-use Rattle.call_ask.specs.Lent.{lent_all, lent}
+use Rattle.object_machine.specs.Next.{shut, refusal}
 use Rattle.object_board.specs.Board.{Board, in_hand, piece_of, is_over, fed_by, refused_to, at_once, once, begins_in, aborts_in, reads_in, with_medium, happens, Shut}
 use Rattle.object_board.specs.Board as board
 use Rattle.object_board.proofs.StepLaws.{Stepped, stepped}
 use Rattle.object_board.proofs.Ways.{Way, way-call, way-running, next-told, fenced-told}
-use Rattle.object_board.proofs.Along.{cursor_of, first, Copies, Ahead, Along, passed-fences}
-use Rattle.object_board.proofs.Follows.{due_of, ahead_of, Kind, idle, other, sync, opening, Facts, Follows}
+use Rattle.object_board.proofs.Along.{cursor_of, Copies, Along, passed-fences}
+use Rattle.object_board.proofs.Follows.{due_of, ahead_of, Kind, idle, other, sync, opening, Follows}
 use Rattle.object_board.proofs.Stages.{other-not, sync-not}
 use Rattle.object_board.proofs.Good.{Good, behind, loaded, follows}
 use Rattle.object_board.proofs.Happens.{told-good}
-use Rattle.object_board.proofs.Asks.{shut_open, refusal_is, shut-failed}
+use Rattle.object_board.proofs.Asks.{shut_open, shut-failed}
 
 -- a call that leaves all but the state, and writes nothing
 pub record Quick (w : World) (d : Call) : Type 0 where

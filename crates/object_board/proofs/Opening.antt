@@ -1,17 +1,16 @@
 -- The homes are loaded, and the store's opening is called.
-use Prim.Native.Nat.{ℕ, zero, suc, ◌+◌, ◌*◌, ◌/◌, ◌≤◌, ◌<◌}
+use Prim.Native.Nat.{ℕ, zero, suc, ◌+◌, ◌*◌, ◌/◌, ◌≤◌}
 use mathlib.Core.Path.{◌≡◌, refl, sym, ap, ◌∙◌, subst}
 use mathlib.Core.Logic.{◌⊎◌, inl, inr}
-use mathlib.Core.Bool.{Bool, true, false, cond, not, ◌&&◌, false≢true}
+use mathlib.Core.Bool.{Bool, true, false, not}
 use mathlib.Core.List.{List, [], ◌∷◌, ◌++◌}
-use mathlib.Core.Option.{Option, none, some}
+use mathlib.Core.Option.{Option, some}
 use native.Mathlib.Omega.{arith}
 use native.Mathlib.Nat.{le_trans}
-use lib.Dec.{eqb, leb, ltb}
 use lib.ListN.{length, take, get_or}
 use borrow.Author.Tests.{ne_eqb}
 use Rattle.model.specs.Bytes.{part, zeros}
-use Rattle.model.specs.Layout.{home_count, put_home}
+use Rattle.model.specs.Layout.{home_count}
 use Rattle.model.specs.Batch.{Record, batch_bytes}
 use Rattle.model.specs.State.{state_of}
 use Rattle.model.specs.declared.State.{State}
@@ -19,20 +18,16 @@ use Rattle.model.specs.Effects.{Given, marked}
 use Rattle.model.specs.Calls.{Outcome, outcome, refused, done as done_call}
 use Rattle.model.specs.Book.{Book, Commit, all_owed, with_commits, write_commits, homes_after}
 use Rattle.model.specs.Crash.{Memory}
-use Rattle.model.specs.Crash as crash
-use Rattle.model.specs.DemandThree.{Opened}
 use Rattle.model.specs.History.{Call, call, World, ends, step, feed, is_opening, is_confirm, loaded as lends, after_call, after_done, Allowed}
 use Rattle.model.specs.History as history
-use Rattle.abstract_store.specs.Store.{Store, Reply, reply, reply_of, follow, many_homes, any_wrote, told, ask_batch}
-use Rattle.abstract_store.specs.Store as store
-use Rattle.theorems.proofs.invariant.Invariant.{Sizes, Closed, Invariant}
-use Rattle.theorems.proofs.steps.Rows.{Row, row_of, ends-row}
+use Rattle.abstract_store.specs.Store.{Store, Reply, reply, reply_of, follow, many_homes, any_wrote, told}
+use Rattle.theorems.proofs.invariant.Invariant.{Sizes}
+use Rattle.theorems.proofs.steps.Rows.{row_of, ends-row}
 use Rattle.theorems.proofs.demands.DemandThree.{keeps}
 use Rattle.object.specs.Medium.{Grain, words, blocks, Medium}
 use Rattle.object.specs.Order.{Motion, motions, moved}
-use Rattle.object.specs.Runner.{Carried}
 use Rattle.object_runner.specs.Next.{cursor}
-use Rattle.object_runner.specs.Moves.{landing_of, headed_after, waiting_after, Due, Hands}
+use Rattle.object_runner.specs.Moves.{headed_after, waiting_after, Due, Hands}
 use Rattle.object_runner.specs.Always.{batch_of, records_of, next_of, headed_before, BatchDue}
 use Rattle.object_runner.proofs.MovesHold.{runner-moves}
 use Rattle.object_runner.proofs.DueHolds.{call-due}
@@ -50,13 +45,13 @@ use Rattle.object_board.proofs.BareLaws.{marked-few}
 use Rattle.object_board.proofs.MadeLaws.{SameEnd, open_made}
 use Rattle.object_board.proofs.StepLaws.{front-is}
 use Rattle.object_board.proofs.Ways.{Way, way-call, way-running, way-answers, opening-answers}
-use Rattle.object_board.proofs.Along.{cursor_of, first, headed-blocks, grain-not, Copies, Ahead, Along}
-use Rattle.object_board.proofs.Follows.{Kind, opening, Facts, Follows, quiet-follows}
+use Rattle.object_board.proofs.Along.{cursor_of, first, headed-blocks, grain-not, Ahead, Along}
+use Rattle.object_board.proofs.Follows.{opening, Facts, quiet-follows}
 use Rattle.object_board.proofs.MoveLaws.{CalledTo, over, on, room, fence, no as refuse, gone}
 use Rattle.object_board.proofs.Stages.{opening-call}
 use Rattle.object_board.proofs.Calling.{given-same, quiet_pass, pass-under, done-code, stage-of, batch-of, MovesOn}
 use Rattle.object_board.proofs.Turns.{moves_to, Calls, calls-next, made-call, follows-called}
-use Rattle.object_board.proofs.Good.{Sized, Under, Kept, Waiting, rests, Behind, Loaded, Good, behind, loaded, follows}
+use Rattle.object_board.proofs.Good.{Under, rests, Loaded, Good, behind, follows}
 use Rattle.object_board.proofs.Happens.{none-carried, over_done}
 use Rattle.object_board.proofs.Loads.{closed_of}
 

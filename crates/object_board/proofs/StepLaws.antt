@@ -1,22 +1,19 @@
 -- What a call of an era leaves of the world, done or refused.
-use Prim.Native.Nat.{ℕ, zero, suc, ◌+◌, ◌*◌, ◌≤◌}
-use mathlib.Core.Path.{◌≡◌, refl, sym, ap, ◌∙◌, subst}
+use Prim.Native.Nat.{ℕ, zero, suc, ◌+◌, ◌≤◌}
+use mathlib.Core.Path.{◌≡◌, refl, sym, ap, ◌∙◌}
 use mathlib.Core.Bool.{Bool, true, false, cond}
-use mathlib.Core.List.{List, [], ◌∷◌, ◌++◌, append-nil}
-use mathlib.Core.Option.{Option, none, some}
+use mathlib.Core.List.{List, [], ◌∷◌, ◌++◌}
+use mathlib.Core.Option.{some}
 use native.Mathlib.Omega.{arith}
-use lib.Dec.{eqb}
-use lib.ListN.{length, take, drop}
+use lib.ListN.{length, take}
 use borrow.Author.Tests.{ne_eqb}
 use Rattle.model.specs.Bytes.{part}
-use Rattle.model.specs.Batch.{Record, read_batch, read_records}
+use Rattle.model.specs.Batch.{Record}
 use Rattle.model.specs.State.{state_of}
-use Rattle.model.specs.Book.{Book}
-use Rattle.model.specs.Calls.{Outcome}
 use Rattle.model.specs.Layout.{header_start}
 use Rattle.model.specs.Crash.{Memory, fences}
 use Rattle.model.specs.DemandTwo.{group_writes}
-use Rattle.model.specs.History.{Call, call, World, ends, feed, is_opening, is_confirm, after_call, after_done, after_refused, step}
+use Rattle.model.specs.History.{Call, call, World, ends, is_opening, is_confirm, after_call, after_done, after_refused, step}
 use Rattle.model_laws.proofs.trace.CrashLaws.{group_writes-append}
 use Rattle.theorems.proofs.invariant.Invariant.{Running}
 use Rattle.object_runner.specs.Always.{batch_of, records_of}

@@ -1,23 +1,15 @@
 -- A turn of the machine: what it leaves of the board, by what is left of the batch in hand.
-use Prim.Native.Nat.{ℕ, zero, suc, ◌+◌, ◌*◌, ◌≤◌, ◌<◌}
-use mathlib.Core.Path.{◌≡◌, refl, sym, ap, ◌∙◌, subst}
+use Prim.Native.Nat.{ℕ, ◌≤◌, ◌<◌}
+use mathlib.Core.Path.{◌≡◌, refl}
 use mathlib.Core.Logic.{◌⊎◌, inl, inr}
-use mathlib.Core.Bool.{Bool, true, false, cond, not, ◌&&◌, ◌||◌}
-use mathlib.Core.List.{List, [], ◌∷◌}
-use mathlib.Core.Option.{Option, none, some}
+use mathlib.Core.Bool.{true, false, ◌||◌}
 use native.Mathlib.Omega.{arith}
-use lib.Dec.{eqb, leb, ltb}
+use lib.Dec.{eqb, ltb}
 use lib.ListN.{length}
 use borrow.Author.Tests.{le-leb, lt-leb, lt-ltb, le-ltb, ne_eqb}
 use Rattle.model.specs.Layout.{group_count, home_count}
 use Rattle.model.specs.State.{state_of}
 use Rattle.model.specs.declared.State.{State}
-use Rattle.model.specs.declared.Holder.{Holder}
-use Rattle.model.specs.Effects.{Given}
-use Rattle.model.specs.Calls.{Outcome}
-use Rattle.model.specs.Crash.{Piece}
-use Rattle.model.specs.Book.{Book}
-use Rattle.model.specs.History.{Call}
 use Rattle.object_runner.specs.declared.Action.{Action}
 use Rattle.object_runner.specs.Next.{next_action}
 use Rattle.object_runner.specs.Moves as runner
@@ -25,11 +17,11 @@ use Rattle.object_machine.specs.declared.Control.{Control}
 use Rattle.object_machine.specs.declared.Turn.{Turn}
 use Rattle.object_machine.specs.declared.Moved.{Moved}
 use Rattle.object_machine.specs.Control.{with_cursor, with_stage, with_batch, with_condition, with_room}
-use Rattle.object_machine.specs.Moves.{moved, load, headed_at, called, uncalled}
-use Rattle.object_machine.specs.Next.{Lent, lent_to, goes as goes_past, stays, hands_out_now, handed, given, follows, holder_for, left_under, onward}
+use Rattle.object_machine.specs.Moves.{moved, load, headed_at, uncalled}
+use Rattle.object_machine.specs.Next.{goes as goes_past, stays, hands_out_now, handed, given, follows, holder_for, left_under, onward}
 use Rattle.object_board.specs.Board.{Board, in_hand, piece_of, call_of, fed_by, handing, call_for, made, made_call, left, with_book, next}
 use Rattle.object_board.proofs.Along.{cursor_of, SameCursor, NewBatch, Cursors}
-use Rattle.object_board.proofs.MoveLaws.{CalledTo, over, on, room, fence, no, called-to, UncalledTo, load-log, load-area, opens, ends, settles, again, gives_up, uncalled-to, gone}
+use Rattle.object_board.proofs.MoveLaws.{CalledTo, called-to, UncalledTo, load-log, load-area, opens, ends, settles, again, gives_up, uncalled-to, gone}
 
 -- the runner's action as a turn
 unfoldable pub turn_of : Action → Turn

@@ -1,32 +1,29 @@
 -- The worlds of the bare calls behind a board, each with the abstract store, and what a loss makes of one.
-use Prim.Native.Nat.{ℕ, zero, suc, ◌+◌, ◌*◌, ◌≤◌}
+use Prim.Native.Nat.{ℕ, ◌+◌, ◌*◌, ◌≤◌}
 use mathlib.Core.Path.{◌≡◌, refl, sym, ap, ◌∙◌, subst}
 use mathlib.Core.Logic.{◌⊎◌, inl, inr}
-use mathlib.Core.Bool.{Bool, true, false, cond, not, ◌&&◌}
-use mathlib.Core.List.{List, [], ◌∷◌, ◌++◌}
+use mathlib.Core.Bool.{Bool, true, false}
+use mathlib.Core.List.{List, []}
 use native.Mathlib.Omega.{arith}
-use lib.Dec.{eqb, leb}
-use lib.ListN.{length, take, drop}
+use lib.Dec.{leb}
+use lib.ListN.{length, drop}
 use borrow.Author.Tests.{eq-eqb, le-leb}
-use Rattle.model.specs.Bytes.{zeros}
 use Rattle.model.specs.Layout.{max_start}
 use Rattle.model.specs.Questions.{ask}
 use Rattle.model.specs.State.{state_of, next_position}
 use Rattle.model.specs.Book.{Book, Commit, run, owed_by, homes_after}
 use Rattle.model.specs.Book as book
 use Rattle.model.specs.Crash.{fences}
-use Rattle.model.specs.DemandThree.{Opened, Crashed, NoneOwed, lost}
-use Rattle.model.specs.History.{Call, opening, confirm, call, World, empty_store, Formatting, after_format, ends, step, row_fates, after_crash, Allowed, is_opening}
+use Rattle.model.specs.DemandThree.{NoneOwed, lost}
+use Rattle.model.specs.History.{Call, opening, call, World, Formatting, after_format, ends, step, row_fates, after_crash, Allowed, is_opening}
 use Rattle.abstract_store.specs.Store.{Store, new_store, Reply, reply, reply_of, follow, next_of, next_group, group_of_first, many_homes, any_wrote, told, ask_batch}
 use Rattle.model_laws.proofs.trace.TraceLaws.{All}
-use Rattle.theorems.proofs.invariant.Invariant.{Sizes, Invariant, Running}
+use Rattle.theorems.proofs.invariant.Invariant.{Sizes, Running}
 use Rattle.theorems.proofs.steps.FormatRuns.{after-format, sizes}
-use Rattle.theorems.proofs.demands.DemandThree.{keeps}
 use Rattle.theorems.proofs.store.StoreAgrees.{next-is, filled_is}
 use Rattle.object.specs.Medium.{Grain}
 use Rattle.object.specs.Alike.{Tearing, plain, torn, tears, TearingAllowed, with_memory}
 use Rattle.object.specs.Order.{Left}
-use Rattle.object.specs.Order as order
 use Rattle.object.specs.Runner.{Carried}
 use Rattle.object.specs.TornClaims.{follow_torn}
 use Rattle.object.proofs.StretchesOf.{Stretches}

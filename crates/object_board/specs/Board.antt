@@ -1,7 +1,7 @@
 -- Demand 4: the machine on a driver that may fail, on a medium that keeps words or blocks, with cuts at any time. A board is what a station has: the machine's
 -- control block and lent memory, what the machine has asked of the driver last and told a task last, and the medium; and beside it the book of commits,
 -- which is fed the store's calls that the machine makes, and cut at a loss.
-use Rattle.std.specs.Prelude.{ℕ, zero, suc, ◌+◌, ◌*◌, ◌≤◌, ◌≡◌, ◌⊎◌, Bool, true, false, cond, not, ◌&&◌, ◌||◌, List, [], ◌∷◌, eqb, leb, ltb, length, take, drop}
+use Rattle.std.specs.Prelude.{ℕ, suc, ◌+◌, ◌*◌, ◌≤◌, ◌≡◌, ◌⊎◌, Bool, true, false, cond, not, ◌&&◌, ◌||◌, List, [], ◌∷◌, eqb, leb, ltb, length, take, drop}
 use Rattle.std.proofs.Math.Option.{Option, none, some}
 use Rattle.model.specs.Bytes.{part}
 use Rattle.model.specs.Layout.{home_count}

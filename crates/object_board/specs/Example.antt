@@ -1,5 +1,5 @@
 -- A board's history on words (G 4, D 4), with all that demand 4 speaks of: operations, a cut that tears words, a failure, openings, a read, room made and a round.
-use Rattle.std.specs.Prelude.{ℕ, zero, suc, ◌%◌, Bool, true, cond, List, [], ◌∷◌, eqb}
+use Rattle.std.specs.Prelude.{ℕ, zero, suc, ◌%◌, Bool, true, cond, [], eqb}
 use Rattle.model.specs.Bytes.{zeros}
 use Rattle.model.specs.Book as book
 use Rattle.model.specs.History.{empty_store}
@@ -8,7 +8,7 @@ use Rattle.object.specs.Medium.{words}
 use Rattle.object_machine.specs.Control.{fresh}
 use Rattle.object_machine.specs.Moves.{done}
 use Rattle.object_machine.specs.Next.{lent_to}
-use Rattle.object_board.specs.Board.{Board, Happening, asks, begins, reads, goes, breaks, cuts, is_over, happens}
+use Rattle.object_board.specs.Board.{Board, Happening, asks, begins, goes, breaks, cuts, is_over, happens}
 
 unfoldable pub all : ℕ → Bool
 all i = true
