@@ -1,4 +1,6 @@
 // The calls that change only the strip: begin, reserve for and abort a writer's transaction, and confirm the fences that have passed.
+#![tactic(auto)]
+
 ghost use Rattle.std.specs.Prelude.{◌≡◌, []};
 ghost use Rattle.model.specs.Questions.{begin_answer, reserve_answer, abort_answer};
 ghost use Rattle.model.specs.Calls.{begin_call, reserve_call, abort_call, confirm_call};

@@ -5,37 +5,36 @@ use borrow.Author.Rules.{rules}
 use Rattle.call_writer.proofs.begin.Statement.{statement}
 use Rattle.call_writer.proofs.begin.Tie as tie
 
-begin-answer-requires : tie.Need-begin-answer-requires
+begin-answer-requires : tie.Need-begin_answer-answer-requires
 begin-answer-requires c κs = search rules
 
 refused-requires : tie.Need-refused-requires
 refused-requires c κs = search rules
 
-same_length : tie.Need-same-length
+same_length : tie.Need-shape_of-state-then-answer-ne0
 same_length c = search rules
 
-returns : tie.Need-returns
+returns : tie.Need-returns-then-answer-ne0
 returns c =
     let d = c.refused.ensures in
-    begin-refused _ _ _ _ _ c.before.before.begin-answer.ensures c.before.if1.true d.0 d.1 d.2
+    begin-refused _ _ _ _ _ c.begin_answer-answer.ensures c.if-answer-ne0.true d.0 d.1 d.2
 
 begin-requires : tie.Need-begin-requires
-begin-requires c κs = omega (arith, begin-fits _ _ c.before.before.begin-answer.ensures c.before.if1.false)
+begin-requires c κs = omega (arith, begin-fits _ _ c.begin_answer-answer.ensures c.if-answer-ne0.false)
 
 done-requires : tie.Need-done-requires
 done-requires c κs = search rules
 
-same-length-2 : tie.Need-same-length-2
+same-length-2 : tie.Need-shape_of-state
 same-length-2 c = search rules
 
-returns-2 : tie.Need-returns-2
+returns-2 : tie.Need-returns
 returns-2 c =
-    let k = c.before.before.before in
     let d = c.done.ensures in
-    begin-done _ _ _ _ _ _ k.before.before.before.begin-answer.ensures k.before.before.if1.false k.begin.ensures d.0 d.1 d.2
+    begin-done _ _ _ _ _ _ c.begin_answer-answer.ensures c.if-answer-ne0.false c.begin.ensures d.0 d.1 d.2
 
-pub begin-spec : {M : Type 1} → statement M
-begin-spec =
+pub begin_spec : {M : Type 1} → statement M
+begin_spec =
     tie.close
     (tie.spec
     begin-answer-requires

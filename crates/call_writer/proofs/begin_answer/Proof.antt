@@ -5,31 +5,29 @@ use Rattle.call_writer.proofs.SessionLaws.{writer-fits, begin-first, begin-opene
 use Rattle.call_writer.proofs.begin_answer.Statement.{statement}
 use Rattle.call_writer.proofs.begin_answer.Tie as tie
 
-writer-answer-requires : tie.Need-writer-answer-requires
+writer-answer-requires : tie.Need-writer_answer-first-requires
 writer-answer-requires c κs = search rules
 
-returns : tie.Need-returns
-returns c = begin-first _ _ c.before.writer-answer.ensures c.if1.true
+returns : tie.Need-returns-then-first-ne0
+returns c = begin-first _ _ c.writer_answer-first.ensures c.if-first-ne0.true
 
 writer-requires : tie.Need-writer-requires
-writer-requires c κs = omega (arith, writer-fits _ _ c.before.writer-answer.ensures c.if1.false)
+writer-requires c κs = omega (arith, writer-fits _ _ c.writer_answer-first.ensures c.if-first-ne0.false)
 
-is-open-requires : tie.Need-is-open-requires
+is-open-requires : tie.Need-is_open-requires
 is-open-requires c κs = search rules
 
-returns-2 : tie.Need-returns-2
+returns-2 : tie.Need-returns-then-is_open
 returns-2 c =
-    let k = c.before.before.before in
-    begin-opened _ _ k.before.writer-answer.ensures _ _ k.if1.false c.before.before.writer.ensures c.before.is_open.ensures
-    c.if2.true
+    begin-opened _ _ c.writer_answer-first.ensures _ _ c.if-first-ne0.false c.writer.ensures c.is_open.ensures
+    c.if-is_open.true
 
-returns-3 : tie.Need-returns-3
+returns-3 : tie.Need-returns
 returns-3 c =
-    let k = c.before.before.before in
-    begin-idle _ _ k.before.writer-answer.ensures _ _ k.if1.false c.before.before.writer.ensures c.before.is_open.ensures
-    c.if2.false
+    begin-idle _ _ c.writer_answer-first.ensures _ _ c.if-first-ne0.false c.writer.ensures c.is_open.ensures
+    c.if-is_open.false
 
-pub begin-answer-spec : {M : Type 1} → statement M
-begin-answer-spec =
+pub begin_answer_spec : {M : Type 1} → statement M
+begin_answer_spec =
     tie.close
     (tie.spec writer-answer-requires returns writer-requires is-open-requires returns-2 returns-3)

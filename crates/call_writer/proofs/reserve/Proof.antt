@@ -5,41 +5,38 @@ use borrow.Author.Rules.{rules}
 use Rattle.call_writer.proofs.reserve.Statement.{statement}
 use Rattle.call_writer.proofs.reserve.Tie as tie
 
-reserve-answer-requires : tie.Need-reserve-answer-requires
+reserve-answer-requires : tie.Need-reserve_answer-answer-requires
 reserve-answer-requires c κs = search rules
 
 refused-requires : tie.Need-refused-requires
 refused-requires c κs = search rules
 
-same_length : tie.Need-same-length
+same_length : tie.Need-shape_of-state-then-answer-ne0
 same_length c = search rules
 
-returns : tie.Need-returns
+returns : tie.Need-returns-then-answer-ne0
 returns c =
     let d = c.refused.ensures in
-    reserve-refused _ _ _ _ _ _ c.before.before.reserve-answer.ensures c.before.if1.true d.0 d.1 d.2
+    reserve-refused _ _ _ _ _ _ c.reserve_answer-answer.ensures c.if-answer-ne0.true d.0 d.1 d.2
 
 begin-requires : tie.Need-begin-requires
-begin-requires c κs = omega (arith, reserve-fits _ _ _ c.before.before.reserve-answer.ensures c.before.if1.false)
+begin-requires c κs = omega (arith, reserve-fits _ _ _ c.reserve_answer-answer.ensures c.if-answer-ne0.false)
 
-set-promise-requires : tie.Need-set-promise-requires
+set-promise-requires : tie.Need-set_promise-requires
 set-promise-requires c κs =
-    let k = c.before.before.before in
-    omega (arith, reserve-fits _ _ _ k.before.before.before.reserve-answer.ensures k.before.before.if1.false)
+    omega (arith, reserve-fits _ _ _ c.reserve_answer-answer.ensures c.if-answer-ne0.false)
 
 done-requires : tie.Need-done-requires
 done-requires c κs = search rules
 
-same-length-2 : tie.Need-same-length-2
+same-length-2 : tie.Need-shape_of-state
 same-length-2 c = search rules
 
-returns-2 : tie.Need-returns-2
+returns-2 : tie.Need-returns
 returns-2 c =
-    let k = c.before.before.before in
-    let j = k.before.before.before.before in
     let d = c.done.ensures in
-    reserve-done _ _ _ _ _ _ _ _ j.before.before.before.reserve-answer.ensures j.before.before.if1.false j.begin.ensures
-    k.set-promise.ensures d.0 d.1 d.2
+    reserve-done _ _ _ _ _ _ _ _ c.reserve_answer-answer.ensures c.if-answer-ne0.false c.begin.ensures
+    c.set_promise.ensures d.0 d.1 d.2
 
 pub reserve_spec : {M : Type 1} → statement M
 reserve_spec =
