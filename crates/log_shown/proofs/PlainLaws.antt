@@ -6,8 +6,7 @@ use native.Mathlib.Decide.{ℕ_discrete}
 use native.Mathlib.Omega.{arith}
 use borrow.Author.Tests.{eq-eqb, ne_eqb, le-leb, lt-leb}
 use lib.Dec.{eqb, leb, ltb}
-use Rattle.model.specs.Tag.{field, home_field, says, read_fields, read_tag, present, home_of}
-use Rattle.model.specs.declared.Tag.{Tag}
+use Rattle.model.specs.Tag.{field, says, read_fields, read_tag, present, home_of}
 use Rattle.model.specs.declared.Tag.TheVariants.{Nothing, Entry, Closing}
 
 says_nothing : (b : Bool) → says b Nothing ≡ Nothing

@@ -1,4 +1,6 @@
 // What a home shows where a position is kept for it: the block of the entry there, if one for that home is, else that of the data copy.
+#![tactic(auto)]
+
 use base_codec::{GROUP_SIZE, HEADER_SIZE};
 
 mod ring;

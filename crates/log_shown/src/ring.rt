@@ -5,7 +5,7 @@ ghost use Rattle.log_shown.specs.There.{RingPlaced};
 use model::State;
 
 // The number of the position's group, its ring slot and turn, and the entry's index there.
-#[derive(Drop)]
+#[derive(Clone, Copy)]
 pub struct RingPlace {
     pub number: u64,
     pub slot: u64,

@@ -5,16 +5,16 @@ use Rattle.log_shown.specs.There.{tag_from}
 use Rattle.log_shown.proofs.displaced_at.Statement.{statement}
 use Rattle.log_shown.proofs.displaced_at.Tie as tie
 
-sub-from : tie.Need-overflow-sub-from
+sub-from : tie.Need-overflow_sub-from
 sub-from c = search rules
 
-mul-number : tie.Need-overflow-mul-number
+mul-number : tie.Need-overflow_mul-from
 mul-number c = search rules
 
-add-number : tie.Need-overflow-add-number
+add-number : tie.Need-overflow_add-from
 add-number c = search rules
 
-add-number-2 : tie.Need-overflow-add-number-2
+add-number-2 : tie.Need-overflow_add-from-2
 add-number-2 c = search rules
 
 number-requires : tie.Need-number-requires
@@ -25,10 +25,10 @@ displaced-requires c κs = search rules
 
 returns : tie.Need-returns
 unfolding tag_from
-returns c = (c.displaced.ensures.0 ∙ rw c.before.number.ensures.0, c.displaced.ensures.1)
+returns c = (c.displaced.ensures.0 ∙ rw c.number.ensures.0, c.displaced.ensures.1)
 
-pub displaced-at-spec : {M : Type 1} → statement M
-displaced-at-spec =
+pub displaced_at_spec : {M : Type 1} → statement M
+displaced_at_spec =
     tie.close
     (tie.spec
     sub-from
