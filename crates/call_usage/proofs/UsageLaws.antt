@@ -1,25 +1,24 @@
 -- What the numbers of a strip in order allow, and how usage ends. Assumes nothing.
-use mathlib.Core.Path.{◌≡◌, refl, sym, ap, ◌∙◌}
-use mathlib.Core.Bool.{Bool, true, false, cond, ◌&&◌, ◌||◌}
+use mathlib.Core.Path.{◌≡◌, refl, sym, ◌∙◌}
+use mathlib.Core.Bool.{Bool, true, false, cond}
 use mathlib.Core.List.{List, []}
 use mathlib.Core.Logic.{◌≢◌}
 use Prim.Native.Nat.{ℕ, zero, suc, ◌+◌, ◌-◌, ◌*◌, ◌^◌, ◌≤◌, ◌<◌}
 use native.Mathlib.Numerals.{add-one}
 use native.Mathlib.Omega.{arith}
-use borrow.Author.Tests.{leb-true, eqb-true, eq-eqb, ne_eqb, lt-ltb, le-ltb}
-use lib.Dec.{eqb, ltb, leb}
+use borrow.Author.Tests.{leb-true, eq-eqb, ne_eqb, lt-ltb, le-ltb}
 use lib.ListN.{length}
-use Rattle.model.specs.Layout.{group_count, home_count, entry_at}
+use Rattle.model.specs.Layout.{entry_at}
 use Rattle.model.specs.Commit.{transactions}
 use Rattle.model.specs.State.{state_of, next_position, places, promised, writer_of, has_logged, count_for}
-use Rattle.model.specs.Effects.{Given, groups, homes, tags_of, live_tags, live_base}
+use Rattle.model.specs.Effects.{Given, tags_of, live_tags, live_base}
 use Rattle.model.specs.Questions.{ask_state}
 use Rattle.model.specs.declared.Usage.{Usage}
 use Rattle.model.specs.declared.Holder.{Holder}
 use Rattle.abstract_store.specs.Usage.{no_holder, holds_lower, holder_of, entries_in, committed_entries, open_entries, usage_of, usage_refused, usage_if, usage_call}
 use Rattle.model.specs.declared.State.{State}
 use Rattle.model.specs.declared.Writer.{Writer}
-use Rattle.model_laws.proofs.state.OrderLaws.{InOrder, next-within}
+use Rattle.model_laws.proofs.state.OrderLaws.{next-within}
 use Rattle.call_ask.specs.Lent.{lent}
 use Rattle.call_ask.proofs.AnswerLaws.{Usable}
 use Rattle.call_usage.specs.Sums.{CountsFit}

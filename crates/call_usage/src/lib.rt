@@ -1,4 +1,6 @@
 // What fills a log: the call usage.
+#![tactic(auto)]
+
 mod entries;
 mod writers;
 

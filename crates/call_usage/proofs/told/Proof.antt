@@ -6,42 +6,39 @@ use borrow.Author.Rules.{rules}
 use Rattle.call_usage.proofs.told.Statement.{statement}
 use Rattle.call_usage.proofs.told.Tie as tie
 
-state-requires : tie.Need-state-requires
+state-requires : tie.Need-state-st-requires
 state-requires c κs = search rules
 
-live-entries-requires : tie.Need-live-entries-requires
+live-entries-requires : tie.Need-live_entries-live-requires
 live-entries-requires c κs = search rules
 
-places-requires : tie.Need-places-requires
-places-requires c κs = usable-groups _ _ _ _ c.before.before.before.before.before.requires c.before.state.ensures
+places-requires : tie.Need-places-free-requires
+places-requires c κs = usable-groups _ _ _ _ c.requires c.state-st.ensures
 
-mul-rest : tie.Need-overflow-mul-rest
+mul-rest : tie.Need-overflow_mul-st
 mul-rest c =
-    omega (arith, numbers _ _ _ _ c.before.before.before.before.before.before.before.requires c.before.before.before.state.ensures)
+    omega (arith, numbers _ _ _ _ c.requires c.state-st.ensures)
 
-sub-rest : tie.Need-overflow-sub-rest
+sub-rest : tie.Need-overflow_sub-st
 sub-rest c =
-    omega (arith, numbers _ _ _ _ c.before.before.before.before.before.before.before.requires c.before.before.before.state.ensures, c.before.places.ensures)
+    omega (arith, numbers _ _ _ _ c.requires c.state-st.ensures, c.places-free.ensures)
 
-rest-requires : tie.Need-rest-requires
+rest-requires : tie.Need-rest-dead-requires
 rest-requires c κs = search rules
 
-promised-requires : tie.Need-promised-requires
+promised-requires : tie.Need-promised-promised-requires
 promised-requires c κs = search rules
 
-holder-requires : tie.Need-holder-requires
+holder-requires : tie.Need-holder-held-requires
 holder-requires c κs = search rules
 
 returns : tie.Need-returns
 returns c =
-    let f = c.before.before.before.before in
-    let l = f.before in
-    let s = l.before in
-    usage-told _ _ _ _ _ _ _ _ _ s.before.before.before.before.requires s.state.ensures l.live-entries.ensures f.places.ensures c.before.before.rest.ensures
-    c.before.promised.ensures c.holder.ensures
+    usage-told _ _ _ _ _ _ _ _ _ c.requires c.state-st.ensures c.live_entries-live.ensures c.places-free.ensures c.rest-dead.ensures
+    c.promised-promised.ensures c.holder-held.ensures
 
-pub told-spec : {M : Type 1} → statement M
-told-spec =
+pub told_spec : {M : Type 1} → statement M
+told_spec =
     tie.close
     (tie.spec
     state-requires

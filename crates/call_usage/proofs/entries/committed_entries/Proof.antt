@@ -5,17 +5,17 @@ use borrow.Author.Rules.{rules}
 use Rattle.call_usage.proofs.entries.committed_entries.Statement.{statement}
 use Rattle.call_usage.proofs.entries.committed_entries.Tie as tie
 
-committed-end-requires : tie.Need-committed-end-requires
+committed-end-requires : tie.Need-committed_end-end-requires
 committed-end-requires c κs = search rules
 
-closed-entries-requires : tie.Need-closed-entries-requires
-closed-entries-requires c κs = walkable _ _ _ _ _ _ c.before.before.requires c.committed-end.ensures
+closed-entries-requires : tie.Need-closed_entries-requires
+closed-entries-requires c κs = walkable _ _ _ _ _ _ c.requires c.committed_end-end.ensures
 
 returns : tie.Need-returns
 returns c =
-    let w = c.before.committed-end.ensures in
-    let k = walkable _ _ _ _ _ _ c.before.before.before.requires w in
-    (committed-sum _ _ _ _ _ w c.closed-entries.ensures.0, omega (arith, c.closed-entries.ensures.1, k.within, k.most))
+    let w = c.committed_end-end.ensures in
+    let k = walkable _ _ _ _ _ _ c.requires w in
+    (committed-sum _ _ _ _ _ w c.closed_entries.ensures.0, omega (arith, c.closed_entries.ensures.1, k.within, k.most))
 
-pub committed-entries-spec : {M : Type 1} → statement M
-committed-entries-spec = tie.close (tie.spec committed-end-requires closed-entries-requires returns)
+pub committed_entries_spec : {M : Type 1} → statement M
+committed_entries_spec = tie.close (tie.spec committed-end-requires closed-entries-requires returns)
