@@ -1,10 +1,8 @@
 -- What the walk and the count give together: the committed transactions and the homes that they touch; and the records of those homes with
 -- what follows them. Assumes nothing.
 use mathlib.Core.Path.{◌≡◌, refl, sym, ap, ◌∙◌}
-use mathlib.Core.Logic.{◌⊎◌, inl, inr}
-use mathlib.Core.Bool.{Bool}
 use mathlib.Core.List.{List, [], ◌∷◌, ◌++◌}
-use Prim.Native.Nat.{ℕ, suc, ◌+◌, ◌-◌, ◌*◌, ◌≤◌, ◌<◌}
+use Prim.Native.Nat.{ℕ, suc, ◌+◌, ◌*◌, ◌≤◌, ◌<◌}
 use native.Mathlib.Omega.{arith}
 use lib.ListN.{length, length-append}
 use Rattle.model.specs.Bytes.{puts}
@@ -16,7 +14,7 @@ use Rattle.model.specs.declared.Tag.{Tag}
 use Rattle.model_laws.proofs.bytes.ByteLaws.{puts-append}
 use Rattle.model_laws.proofs.state.BatchLaws.{batch-append}
 use Rattle.model_laws.proofs.rule.Closings.{end_of}
-use Rattle.model_laws.proofs.rule.ClosingLaws.{committed-closings, committed-within}
+use Rattle.model_laws.proofs.rule.ClosingLaws.{committed-closings}
 use Rattle.model_laws.proofs.trace.ReplayLaws.{length-replayed}
 use Rattle.base_bitmap.proofs.MarkedLaws.{length_marked}
 use Rattle.base_batch.specs.Within.{Within}
@@ -26,7 +24,7 @@ use Rattle.log_scan.specs.declared.commits.Progress.{Progress}
 use Rattle.log_gather.specs.Chains.{Chained}
 use Rattle.log_gather.proofs.EndLaws.{end-walkable}
 use Rattle.log_replay.proofs.RestoreLaws.{touches-below}
-use Rattle.log_tables.specs.Plans.{Searchable, Planned, Brought, StepMade}
+use Rattle.log_tables.specs.Plans.{Searchable, Planned}
 
 -- ---- what is planned
 

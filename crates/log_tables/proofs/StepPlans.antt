@@ -1,26 +1,24 @@
 -- What is planned for a round's step, and what bringing its homes back gives. Assumes nothing.
-use mathlib.Core.Path.{◌≡◌, refl, sym, ap, ◌∙◌}
+use mathlib.Core.Path.{◌≡◌, sym, ap, ◌∙◌}
 use mathlib.Core.Logic.{◌⊎◌, inl, inr}
 use mathlib.Core.Bool.{Bool, true, false, cond}
-use mathlib.Core.List.{List, []}
+use mathlib.Core.List.{List}
 use Prim.Native.Nat.{ℕ, ◌+◌, ◌-◌, ◌*◌, ◌≤◌, ◌<◌}
 use native.Mathlib.Decide.{dec_le, ℕ_discrete}
 use native.Mathlib.Omega.{arith}
 use lib.Dec.{leb, ltb}
 use lib.ListN.{length, get_or, take}
 use lib.Seq.{take_all, length-take-le}
-use borrow.Author.Tests.{le-leb, lt-leb, lt-ltb, le-ltb, ltb-true}
+use borrow.Author.Tests.{lt-leb, lt-ltb}
 use Rattle.model.specs.Bytes.{puts}
 use Rattle.model.specs.Layout.{entry_at}
 use Rattle.model.specs.Batch.{batch_bytes}
 use Rattle.model.specs.Effects.{home_writes, restored_homes}
-use Rattle.model.specs.declared.Tag.{Tag}
 use Rattle.log_scan.specs.Walk.{Walkable, closed_below}
 use Rattle.log_replay.specs.Words.{touches}
-use Rattle.log_replay.specs.Restore.{restored, newest_at}
 use Rattle.log_replay.specs.Steps.{span, Stepped, Left}
 use Rattle.log_replay.proofs.StepLaws.{due-span, due-length, length-span, span-in, span-take, span_last, restored-homes}
-use Rattle.log_tables.specs.Plans.{remaining, StepMade}
+use Rattle.log_tables.specs.Plans.{remaining}
 
 -- ---- how many homes
 

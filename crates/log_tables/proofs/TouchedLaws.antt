@@ -3,7 +3,7 @@ use mathlib.Core.Path.{◌≡◌, refl, sym, ap, ◌∙◌}
 use mathlib.Core.Logic.{◌⊎◌, inl, inr}
 use mathlib.Core.Bool.{Bool, true, false, cond, false≢true}
 use mathlib.Core.List.{List, [], ◌∷◌, ◌++◌}
-use Prim.Native.Nat.{ℕ, zero, suc, ◌+◌, ◌-◌, ◌*◌, ◌≤◌, ◌<◌}
+use Prim.Native.Nat.{ℕ, zero, suc, ◌+◌, ◌-◌, ◌*◌, ◌≤◌}
 use native.Mathlib.Decide.{ℕ_discrete}
 use native.Mathlib.Omega.{arith}
 use borrow.Author.Tests.{eq-eqb, ne_eqb}
@@ -18,7 +18,7 @@ use Rattle.base_bitmap.proofs.MarkedLaws.{marked-none}
 use Rattle.log_scan.specs.Walk.{Walkable, closed_below}
 use Rattle.log_scan.proofs.ScanLaws.{placed}
 use Rattle.log_gather.specs.Closers.{closer}
-use Rattle.log_replay.specs.Best.{Best, nothing, better, from, taken, best}
+use Rattle.log_replay.specs.Best.{Best, nothing, taken, best}
 use Rattle.log_replay.proofs.BestLaws.{best-newest}
 use Rattle.log_tables.proofs.PlanLaws.{touched-most}
 

@@ -6,11 +6,11 @@ use borrow.Author.Tests.{le-leb, lt-leb}
 use Rattle.log_tables.proofs.steps.fence_size.Statement.{statement}
 use Rattle.log_tables.proofs.steps.fence_size.Tie as tie
 
-returns : tie.Need-returns
-returns c = sym (ap (λ (b : Bool). cond {A = ℕ} b 2 0) (lt-leb _ _ c.if1.true))
+returns : tie.Need-returns-then-limit-found
+returns c = sym (ap (λ (b : Bool). cond {A = ℕ} b 2 0) (lt-leb _ _ c.if-limit-found.true))
 
-returns-2 : tie.Need-returns-2
-returns-2 c = sym (ap (λ (b : Bool). cond {A = ℕ} b 2 0) (le-leb _ _ c.if1.false))
+returns-2 : tie.Need-returns-else-limit-found
+returns-2 c = sym (ap (λ (b : Bool). cond {A = ℕ} b 2 0) (le-leb _ _ c.if-limit-found.false))
 
-pub fence-size-spec : {M : Type 1} → statement M
-fence-size-spec = tie.close (tie.spec returns returns-2)
+pub fence_size_spec : {M : Type 1} → statement M
+fence_size_spec = tie.close (tie.spec returns returns-2)

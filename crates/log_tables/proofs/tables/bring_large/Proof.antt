@@ -10,33 +10,33 @@ use borrow.Author.Rules.{rules}
 use Rattle.log_tables.proofs.tables.bring_large.Statement.{statement}
 use Rattle.log_tables.proofs.tables.bring_large.Tie as tie
 
-slice-aggregate-walk : tie.Need-slice-aggregate-walk
+slice-aggregate-walk : tie.Need-slice_bounds-walk-end
 slice-aggregate-walk c = search rules
 
-slice-aggregate-walk-2 : tie.Need-slice-aggregate-walk-2
+slice-aggregate-walk-2 : tie.Need-slice_bounds-walk-end-2
 slice-aggregate-walk-2 c = search rules
 
-slice-aggregate-walk-3 : tie.Need-slice-aggregate-walk-3
+slice-aggregate-walk-3 : tie.Need-slice_bounds-walk-end-3
 slice-aggregate-walk-3 c = search rules
 
-walk-requires : tie.Need-walk-requires
+walk-requires : tie.Need-walk-found-requires
 walk-requires c κs =
-    let s = c.before.before.before.before.before.before.requires.0 in
+    let s = c.requires.0 in
     (s.long, s.least, s.most, s.homes-most, s.low, s.within, empty-sized _ 7168 (omega (arith, s.most)))
 
-slice-aggregate-walk-twice : tie.Need-slice-aggregate-walk-twice
+slice-aggregate-walk-twice : tie.Need-slice_bounds-walk_twice-end
 slice-aggregate-walk-twice c = search rules
 
-slice-aggregate-walk-twice-2 : tie.Need-slice-aggregate-walk-twice-2
+slice-aggregate-walk-twice-2 : tie.Need-slice_bounds-walk_twice-end-then-found-eq2
 slice-aggregate-walk-twice-2 c = search rules
 
-slice-aggregate-walk-twice-3 : tie.Need-slice-aggregate-walk-twice-3
+slice-aggregate-walk-twice-3 : tie.Need-slice_bounds-walk_twice-end-then-found-eq2-2
 slice-aggregate-walk-twice-3 c = search rules
 
-walk-twice-requires : tie.Need-walk-twice-requires
+walk-twice-requires : tie.Need-walk_twice-found-requires
 walk-twice-requires c κs =
-    let s = c.before.before.before.before.before.before.before.before.before.before.before.before.before.before.before.requires.0 in
-    let k = c.before.before.before.before.before.before.before.before.walk.auto in (
+    let s = c.requires.0 in
+    let k = c.walk-found.auto in (
       s.long,
       s.least,
       s.most,
@@ -47,83 +47,83 @@ walk-twice-requires c κs =
     )
 
 -- one walk has told all, or the second of two
-module _ (c : tie.Joined1) where
-  told : TablesFilled c.before.before.before.before.before.before.before.before.before.before.before.before.args.log.now c.before.before.before.before.before.before.before.before.before.before.before.before.args.groups c.before.before.before.before.before.before.before.before.before.before.before.before.args.homes c.before.before.before.before.before.before.before.before.before.before.before.before.args.start c.before.before.before.before.before.before.before.before.before.before.before.before.args.n c.if1.found c.if1.new c.if1.heads c.if1.links
+module _ (c : tie.Joined-found-eq2) where
+  told : TablesFilled c.args.log.now c.args.groups c.args.homes c.args.start c.args.n c.if-found-eq2.found c.if-found-eq2.last c.if-found-eq2.heads c.if-found-eq2.links
   told =
-      ⊎_elim (λ w. told-by _ _ _ _ _ _ _ _ _ _ _ _ _ w.8 w.9 w.10 w.11 w.4.ensures)
-      (λ w. told-by _ _ _ _ _ _ _ _ _ _ _ _ _ w.1 w.2 w.3 w.4 (c.before.before.before.before.before.walk.ensures w.0.left)) c.if1.branch
+      ⊎_elim (λ w. told-by _ _ _ _ _ _ _ _ _ _ _ _ _ w.last-is w.heads-is w.links-is w.found-is w.walk_twice-found.ensures)
+      (λ w. told-by _ _ _ _ _ _ _ _ _ _ _ _ _ w.last-is w.heads-is w.links-is w.found-is (c.walk-found.ensures w.if-found-eq2.false)) c.if-found-eq2.branch-raw
 
-  sized : (length {A = ℕ} c.if1.new ≡ 7168) × (length {A = ℕ} c.if1.heads ≡ 1024) × (length {A = ℕ} c.if1.links ≡ 7168)
+  sized : (length {A = ℕ} c.if-found-eq2.last ≡ 7168) × (length {A = ℕ} c.if-found-eq2.heads ≡ 1024) × (length {A = ℕ} c.if-found-eq2.links ≡ 7168)
   sized =
-      let k = c.before.before.before.before.before.walk.auto in
+      let k = c.walk-found.auto in
       ⊎_elim
       (λ w. (
-        omega (arith, k, w.4.kept, ap (length {A = ℕ}) w.8),
-        omega (arith, k, w.4.kept, ap (length {A = ℕ}) w.9),
-        omega (arith, k, w.4.kept, ap (length {A = ℕ}) w.10),
+        omega (arith, k, w.walk_twice-found.auto, ap (length {A = ℕ}) w.last-is),
+        omega (arith, k, w.walk_twice-found.auto, ap (length {A = ℕ}) w.heads-is),
+        omega (arith, k, w.walk_twice-found.auto, ap (length {A = ℕ}) w.links-is),
       ))
       (λ w. (
-        omega (arith, k, ap (length {A = ℕ}) w.1),
-        omega (arith, k, ap (length {A = ℕ}) w.2),
-        omega (arith, k, ap (length {A = ℕ}) w.3),
+        omega (arith, k, ap (length {A = ℕ}) w.last-is),
+        omega (arith, k, ap (length {A = ℕ}) w.heads-is),
+        omega (arith, k, ap (length {A = ℕ}) w.links-is),
       ))
-      c.if1.branch
+      c.if-found-eq2.branch-raw
 
-slice-aggregate-bring-all : tie.Need-slice-aggregate-bring-all
+slice-aggregate-bring-all : tie.Need-slice_bounds-bring_all-end
 slice-aggregate-bring-all c = omega (arith, sized c.before.before.before.before)
 
-slice-aggregate-bring-all-2 : tie.Need-slice-aggregate-bring-all-2
+slice-aggregate-bring-all-2 : tie.Need-slice_bounds-bring_all-end-then-limit-eq0
 slice-aggregate-bring-all-2 c = omega (arith, sized c.before.before.before.before.before)
 
-slice-aggregate-bring-all-3 : tie.Need-slice-aggregate-bring-all-3
+slice-aggregate-bring-all-3 : tie.Need-slice_bounds-bring_all-end-then-limit-eq0-2
 slice-aggregate-bring-all-3 c = omega (arith, sized c.before.before.before.before.before.before)
 
-bring-all-requires : tie.Need-bring-all-requires
+bring-all-requires : tie.Need-bring_all-size-requires
 bring-all-requires c κs =
-    let p = c.before.before.before.before.before.before.before.before.before.before.before.before.before.before.before.before.before.before.requires in
+    let p = c.requires in
     let w = told c.before.before.before.before.before.before in
     (end-within _ _ _ _ _ _ p.0 w.0, p.0.homes-most, p.1, p.2, w.2)
 
-same_length : tie.Need-same-length
+same_length : tie.Need-shape_of-area-then-limit-eq0
 same_length c = search rules
 
-same-length-2 : tie.Need-same-length-2
+same-length-2 : tie.Need-shape_of-batch-then-limit-eq0
 same-length-2 c = search rules
 
-returns : tie.Need-returns
+returns : tie.Need-returns-then-limit-eq0
 returns c =
     let w = told c.before.before.before.before.before.before.before.before.before.before.before in
-    let r = c.before.before.before.before.bring-all.ensures in
-    (record { ends = w.0; numbered = w.1 }, (λ z. (r.0, r.1), λ l. absurd (omega (arith, l, c.before.before.before.before.before.before.before.before.before.before.if2.true))))
+    let r = c.bring_all-size.ensures in
+    (record { ends = w.0; numbered = w.1 }, (λ z. (r.0, r.1), λ l. absurd (omega (arith, l, c.if-limit-eq0.true))))
 
-slice-aggregate-bring-some : tie.Need-slice-aggregate-bring-some
+slice-aggregate-bring-some : tie.Need-slice_bounds-bring_some-end
 slice-aggregate-bring-some c = omega (arith, sized c.before.before.before.before)
 
-slice-aggregate-bring-some-2 : tie.Need-slice-aggregate-bring-some-2
+slice-aggregate-bring-some-2 : tie.Need-slice_bounds-bring_some-end-2
 slice-aggregate-bring-some-2 c = omega (arith, sized c.before.before.before.before.before)
 
-slice-aggregate-bring-some-3 : tie.Need-slice-aggregate-bring-some-3
+slice-aggregate-bring-some-3 : tie.Need-slice_bounds-bring_some-end-3
 slice-aggregate-bring-some-3 c = omega (arith, sized c.before.before.before.before.before.before)
 
-bring-some-requires : tie.Need-bring-some-requires
+bring-some-requires : tie.Need-bring_some-made-requires
 bring-some-requires c κs =
-    let p = c.before.before.before.before.before.before.before.before.before.before.before.before.before.before.before.before.before.before.requires in
+    let p = c.requires in
     let w = told c.before.before.before.before.before.before in
     (end-within _ _ _ _ _ _ p.0 w.0, p.0.homes-most, p.1, w.2)
 
-same-length-3 : tie.Need-same-length-3
+same-length-3 : tie.Need-shape_of-area
 same-length-3 c = search rules
 
-same-length-4 : tie.Need-same-length-4
+same-length-4 : tie.Need-shape_of-batch
 same-length-4 c = search rules
 
-returns-2 : tie.Need-returns-2
+returns-2 : tie.Need-returns
 returns-2 c =
     let w = told c.before.before.before.before.before.before.before.before.before.before.before in
-    (record { ends = w.0; numbered = w.1 }, (λ z. absurd (c.before.before.before.before.before.before.before.before.before.before.if2.false z), λ l. c.before.before.before.before.bring-some.ensures))
+    (record { ends = w.0; numbered = w.1 }, (λ z. absurd (c.if-limit-eq0.false z), λ l. c.bring_some-made.ensures))
 
-pub bring-large-spec : {M : Type 1} → statement M
-bring-large-spec =
+pub bring_large_spec : {M : Type 1} → statement M
+bring_large_spec =
     tie.close
     (tie.spec
     slice-aggregate-walk
