@@ -1,4 +1,6 @@
 // The call trim: the log's start moves up to the highest group that no transaction lies across.
+#![tactic(auto)]
+
 mod moves;
 mod start;
 

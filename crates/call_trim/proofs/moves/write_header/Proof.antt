@@ -4,19 +4,19 @@ use Rattle.call_trim.proofs.TrimmingLaws.{header-fenced}
 use Rattle.call_trim.proofs.moves.write_header.Statement.{statement}
 use Rattle.call_trim.proofs.moves.write_header.Tie as tie
 
-header-write-requires : tie.Need-header-write-requires
+header-write-requires : tie.Need-header_write-at-requires
 header-write-requires c κs = search rules
 
 fence-requires : tie.Need-fence-requires
 fence-requires c κs = search rules
 
-same_length : tie.Need-same-length
+same_length : tie.Need-shape_of-batch
 same_length c = search rules
 
 returns : tie.Need-returns
 returns c =
-    let w = c.before.before.before.before.before.before.header-write in
-    header-fenced _ _ _ _ _ _ _ w.ensures.0 w.ensures.1 c.before.before.fence.ensures.1
+    let w = c.header_write-at in
+    header-fenced _ _ _ _ _ _ _ w.ensures.0 w.ensures.1 c.fence.ensures.1
 
-pub write-header-spec : {M : Type 1} → statement M
-write-header-spec = tie.close (tie.spec header-write-requires fence-requires same_length returns)
+pub write_header_spec : {M : Type 1} → statement M
+write_header_spec = tie.close (tie.spec header-write-requires fence-requires same_length returns)
