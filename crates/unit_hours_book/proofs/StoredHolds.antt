@@ -1,16 +1,14 @@
 -- A pump's home holds what its events in the book's list say, in every history. Assumes nothing.
-use Prim.Native.Nat.{ℕ, ◌+◌}
-use mathlib.Core.Path.{◌≡◌, refl, sym, ap, ◌∙◌, subst}
+use Prim.Native.Nat.{ℕ}
+use mathlib.Core.Path.{◌≡◌, sym, ◌∙◌, subst}
 use mathlib.Core.List.{List, [], ◌∷◌, ◌++◌}
 use native.Mathlib.Omega.{arith}
-use lib.Dec.{eqb}
-use lib.ListN.{length}
 use borrow.Author.Tests.{eq-eqb}
 use Rattle.unit_events.specs.Offered.{joined}
 use Rattle.unit_events.specs.Homes.{pump_home}
 use Rattle.unit_events.specs.Folded.{Filling, Growing}
 use Rattle.unit_events.proofs.FoldedHolds.{events-recorded}
-use Rattle.unit_hours_book.specs.Pump.{Pump, pump_of, block_of}
+use Rattle.unit_hours_book.specs.Pump.{pump_of}
 use Rattle.unit_hours_book.specs.Events.{Event, answer, after, settled, applied}
 use Rattle.unit_hours_book.specs.Guarantees.{answer_by, held_with, Represents, Timed}
 use Rattle.unit_hours_book.specs.Stored.{judged, HoursRecorded}

@@ -1,11 +1,13 @@
 // Hours book of a pump: what its home block holds, and what a start and a stop make of it.
+#![tactic(auto)]
+
 ghost use Rattle.std.specs.Prelude.{◌≡◌, ◌^◌, ◌<◌, length};
 ghost use Rattle.unit_hours_book.specs.Pump.{pump_of, flag, block_of, Fits};
 ghost use Rattle.unit_hours_book.specs.Events.{start_at, stop_at, late, total_at, leaves, applied};
 ghost use Rattle.unit_hours_book.specs.Services.{due};
 
 // What a pump's home block holds: starts, seconds of finished runs, the last event's second, and whether the pump runs.
-#[derive(Drop)]
+#[derive(Clone, Copy)]
 pub struct Pump {
     pub starts: u64,
     pub total: u64,
@@ -14,7 +16,7 @@ pub struct Pump {
 }
 
 // Whole services due, and seconds left over.
-#[derive(Drop)]
+#[derive(Clone, Copy)]
 pub struct Due {
     pub services: u64,
     pub left: u64,

@@ -4,13 +4,13 @@ use Rattle.unit_hours_book.specs.Pump.{flag}
 use Rattle.unit_hours_book.proofs.flag.Statement.{statement}
 use Rattle.unit_hours_book.proofs.flag.Tie as tie
 
-returns : tie.Need-returns
+returns : tie.Need-returns-then-running
 unfolding flag
-returns c = sym (rw c.if1.true)
+returns c = sym (rw c.if-running.true)
 
-returns-2 : tie.Need-returns-2
+returns-2 : tie.Need-returns-else-running
 unfolding flag
-returns-2 c = sym (rw c.if1.false)
+returns-2 c = sym (rw c.if-running.false)
 
-pub flag-spec : {M : Type 1} → statement M
-flag-spec = tie.close (tie.spec returns returns-2)
+pub flag_spec : {M : Type 1} → statement M
+flag_spec = tie.close (tie.spec returns returns-2)

@@ -6,18 +6,18 @@ use Rattle.unit_hours_book.proofs.EventLaws.{total-before}
 use Rattle.unit_hours_book.proofs.total_at.Statement.{statement}
 use Rattle.unit_hours_book.proofs.total_at.Tie as tie
 
-sub-result : tie.Need-overflow-sub-result
+sub-result : tie.Need-overflow_sub-result
 sub-result c = search rules
 
-add-result : tie.Need-overflow-add-result
+add-result : tie.Need-overflow_add-result
 add-result c = search rules
 
-returns : tie.Need-returns
+returns : tie.Need-returns-then-p-second
 unfolding total_at
 returns c = refl
 
-returns-2 : tie.Need-returns-2
-returns-2 c = total-before _ _ c.if1.false
+returns-2 : tie.Need-returns
+returns-2 c = total-before _ _ c.if-p-second.false
 
-pub total-at-spec : {M : Type 1} → statement M
-total-at-spec = tie.close (tie.spec sub-result add-result returns returns-2)
+pub total_at_spec : {M : Type 1} → statement M
+total_at_spec = tie.close (tie.spec sub-result add-result returns returns-2)
