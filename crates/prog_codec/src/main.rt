@@ -1,4 +1,6 @@
 // Runs the codec on the paper's tags, and on numbers and marks in a small buffer.
+#![tactic(auto)]
+
 ghost use Rattle.std.specs.Prelude.{◌≡◌};
 ghost use Rattle.model.specs.Tag.{home_of};
 
