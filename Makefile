@@ -48,7 +48,7 @@ MACHINE_ARCHIVE = target/staticlib/libobject_machine.a
 .PHONY: all help run quick test test-library test-compared test-c compare play bench bench-peers bench-docs reference library clean
 
 # The toolchain that this repository was checked with, as 'rt version' prints it.
-RATTLE = rattle-kit-5b-plain logic 097e4c862dff5811
+RATTLE = rattle-kit-13f logic dac8208d650f15bf
 
 all: kagutin station inspect quickstart gauges inflow bands wear
 
@@ -68,7 +68,7 @@ library: $(ARCHIVE)
 crate_of = $(if $(filter $(1),$(STANDALONE)),alone_)$(1)
 more_of = $(if $(filter $(1),kagutin),$(filter-out kagutin,$(EXPORTS)))
 define ARCHIVE_OF
-target/staticlib/lib$(1).a: crates.txt $$(shell find crates.txt $(addprefix crates/,$(shell scripts/library.sh --crates $(call crate_of,$(1)) $(call more_of,$(1)))) -name '*.rt' -o -name '*.antt')
+target/staticlib/lib$(1).a: crates.txt $$(shell find crates.txt $(addprefix crates/,$(shell scripts/library.sh --crates $(call crate_of,$(1)) $(call more_of,$(1)))) -name out -prune -o -name '*.rt' -print -o -name '*.antt' -print)
 	@scripts/library.sh $(call crate_of,$(1)) $(1) $(call more_of,$(1))
 endef
 $(foreach name,$(ARCHIVES:target/staticlib/lib%.a=%) object_machine,$(eval $(call ARCHIVE_OF,$(name))))

@@ -15,26 +15,28 @@ DIST_HEADERS = kagutin.h kagutin_chains.h
 DIST_RESULTS = call_ask::Reply=kagutin_reply model::Usage=kagutin_places object_runner::Action=kagutin_action
 
 PORT_OUT = target/port
-GENERATOR = python3 port/generate.py --rlib target/rlib --source crates
-GENERATE_WORDS = --rlib target/rlib --source crates $(EXPORTS:%=--export %) $(DIST_HEADERS:%=--header %) $(DIST_RESULTS:%=--result %)
+GENERATOR = python3 port/generate.py --rlib crates --source crates
+GENERATE_WORDS = --rlib crates --source crates $(EXPORTS:%=--export %) $(DIST_HEADERS:%=--header %) $(DIST_RESULTS:%=--result %)
 GENERATE = python3 port/generate.py $(GENERATE_WORDS)
 
 # The standalone calls, which need no store, each a crate and a C file of its own: a program takes those that it needs.
 GENERATE_gauges = $(GENERATOR) --export alone_gauges --header kagutin_gauges.h --result alone_gauges::Comparison=kagutin_comparison
 GENERATE_inflow = $(GENERATOR) --export alone_inflow --header kagutin_inflow.h --result alone_inflow::Bounds=kagutin_inflow_bounds
 STANDALONE = gauges inflow
+PROVED_PROGRAMS = $(EXPORTS) $(STANDALONE:%=alone_%) $(UNITS_CRATES)
 DIST_FILES = $(DIST_C) $(STANDALONE:%=dist/kagutin_%.c)
 
 .PHONY: dist dist-check generator-check generator-quick port-check port-compare
 
 dist:
 	@mkdir -p $(PORT_OUT)
-	@rt check $(EXPORTS) $(STANDALONE:%=alone_%) > $(PORT_OUT)/proved.log 2>&1 || { cat $(PORT_OUT)/proved.log; exit 1; }
+	@scripts/built.sh $(PROVED_PROGRAMS)
 	@$(GENERATE) --out $(DIST_C)
 	@$(foreach b,$(STANDALONE),$(GENERATE_$(b)) --out dist/kagutin_$(b).c &&) true
 	@$(MAKE) --no-print-directory units-dist all-in-one
 
 dist-check:
+	@scripts/built.sh $(PROVED_PROGRAMS)
 	@rm -rf $(PORT_OUT)/again && mkdir -p $(PORT_OUT)/again
 	@$(GENERATE) --out $(PORT_OUT)/again/kagutin.c
 	@$(foreach b,$(STANDALONE),$(GENERATE_$(b)) --out $(PORT_OUT)/again/kagutin_$(b).c &&) true
@@ -45,6 +47,7 @@ dist-check:
 
 # Tests of the generator itself. generator-quick: those that take seconds, and where nothing is proved only the one that needs no proved program.
 generator-check:
+	@scripts/built.sh $(PROVED_PROGRAMS)
 	python3 tests/generator/forms.py
 	python3 tests/generator/generator.py $(GENERATE_WORDS)
 	python3 tests/generator/imports.py
@@ -53,7 +56,7 @@ generator-check:
 
 generator-quick:
 	python3 tests/generator/forms.py
-	@if [ -d target/rlib/kagutin.rlib ]; then python3 tests/generator/imports.py && python3 tests/generator/buffers.py; fi
+	@if [ -d crates/unit_alarms/out/rlib/unit_alarms.rlib ]; then python3 tests/generator/imports.py && python3 tests/generator/buffers.py; fi
 
 # Shared objects that compare loads. no-passes.c is the same program without the generator's passes, gcc-plain without quicker helpers.
 PORT_SHARED = -std=c99 -Iinclude -fPIC -shared

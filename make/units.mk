@@ -20,7 +20,7 @@ GENERATE_alarms = $(GENERATE_UNIT) --export unit_alarms --header kagutin_alarms.
 
 units-dist:
 	@mkdir -p $(PORT_OUT)
-	@rt check $(UNITS_CRATES) > $(PORT_OUT)/proved.log 2>&1 || { cat $(PORT_OUT)/proved.log; exit 1; }
+	@scripts/built.sh $(UNITS_CRATES)
 	@$(foreach u,$(UNITS),$(GENERATE_$(u)) --out dist/kagutin_$(u).c &&) true
 
 units-dist-check:

@@ -17,6 +17,7 @@ VALIDATED = --include include --joined dist/kagutin_all.c --file $(DIST_C) $(GEN
 
 validate:
 	@[ -n "$(VALIDATE_PYTHON)" ] || { echo "validate: apt-get install python3-z3 python3-pycparser" >&2; exit 1; }
+	@scripts/built.sh $(PROVED_PROGRAMS)
 	$(VALIDATE_PYTHON) validate/validate.py --solver $(SOLVER) $(VALIDATED)
 
 .PHONY: validate-check validate-quick-check

@@ -140,16 +140,21 @@ class Program:
     def add(self, name, form):
         if name in self.functions:
             raise Refused(f'{name}: two functions of this name')
-        self.functions[name] = Function(name, form)
         for declared in form['types']:
             if self.declared.setdefault(declared['name'], declared['shape']) != declared['shape']:
                 raise Refused(f'{declared["name"]}: two shapes')
-        if self.functions[name].lent and self.may_point(self.functions[name].types[0]):
-            raise Refused(f'{name}: a constant lent in a function whose result may point to it')
+        try:
+            self.functions[name] = Function(name, form)
+            if self.functions[name].lent and self.may_point(self.functions[name].types[0]):
+                raise Refused(f'{name}: a constant lent in a function whose result may point to it')
+        except Refused as refused:                                  # another crate's function may have forms that no C file here has
+            self.functions[name] = refused
 
     def get(self, name):
         if name not in self.functions:
             raise Refused(f'no proved function {name}')
+        if isinstance(self.functions[name], Refused):
+            raise self.functions[name]
         return self.functions[name]
 
     # ---- types
