@@ -1,5 +1,5 @@
 -- The bytes of a list: read back, and made of parts of another list's bytes. Assumes nothing.
-use mathlib.Core.Path.{◌≡◌, refl, sym, ◌∙◌}
+use mathlib.Core.Path.{◌≡◌, refl, sym, ap, ◌∙◌}
 use mathlib.Core.List.Memᴰ
 use mathlib.Core.List.{List, [], ◌∷◌, ◌++◌, append-nil, append_assoc}
 use mathlib.Core.Logic.{⊎_elim}
@@ -54,7 +54,8 @@ read-list d at (a ∷ xs) r h =
     let f = alarm-below (puts d at (alarm_bytes a)) (at + 7) (list_bytes xs) at (omega arith) in
     let g = alarm-same d at a (r a (Memᴰ.head refl)) (omega arith) in
     let k = read-list (puts d at (alarm_bytes a)) (at + 7) xs (λ b m. r b (Memᴰ.tail m)) (omega (arith, length-puts d at (alarm_bytes a))) in
-    rw (e, f, g, k)
+    let m : alarms_from (puts d at (alarm_bytes a ++ list_bytes xs)) (length xs) (at + 7) ≡ xs = ap (λ z. alarms_from z (length xs) (at + 7)) e ∙ k in
+    rw (m, e, f, g)
 
 pub from-above : (d : List ℕ) (i : ℕ) (t : List ℕ) (n at : ℕ) → i + length t ≤ at → alarms_from (puts d i t) n at ≡ alarms_from d n at
 unfolding alarms_from

@@ -1,16 +1,12 @@
 -- The alarms' homes hold what their events in the book's list say, in every history. Assumes nothing.
-use Prim.Native.Nat.{ℕ, ◌+◌, ◌*◌}
-use mathlib.Core.Path.{◌≡◌, refl, sym, ap, ◌∙◌}
-use mathlib.Core.List.{List}
+use mathlib.Core.Path.{ap, ◌∙◌}
 use native.Mathlib.Omega.{arith}
-use lib.Dec.{eqb}
-use lib.ListN.{length}
 use borrow.Author.Tests.{eq-eqb}
 use Rattle.unit_events.specs.Homes.{alarm_home, alarm_homes}
 use Rattle.unit_events.specs.Folded.{Filling, Growing}
 use Rattle.unit_events.proofs.FoldedHolds.{events-recorded}
 use Rattle.unit_alarms_list.specs.OpenAlarms.{alarms_of, kept_for_home}
-use Rattle.unit_alarms_list.specs.Events.{Event, answer, after, settled, applied}
+use Rattle.unit_alarms_list.specs.Events.{answer, after, settled, applied}
 use Rattle.unit_alarms_list.specs.Guarantees.{answer_by, held_with, Represents, Typed}
 use Rattle.unit_alarms_list.specs.Stored.{judged, AlarmsRecorded, GravestReply}
 use Rattle.unit_alarms_list.proofs.BackLaws.{length-packed, kept_block}

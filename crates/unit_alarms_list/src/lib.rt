@@ -1,4 +1,6 @@
 // Open alarms: what their six home blocks hold, and what an arrival and a clearing make of them.
+#![tactic(auto)]
+
 mod fields;
 mod list;
 
@@ -12,7 +14,7 @@ pub use fields::class_known;
 use list::{find, open_count, with_one, without_one};
 
 // An open alarm: who raises it, how grave it is, and when it came.
-#[derive(Drop)]
+#[derive(Clone, Copy)]
 pub struct Alarm {
     pub identity: u64,
     pub class: u64,

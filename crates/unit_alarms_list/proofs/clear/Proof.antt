@@ -4,28 +4,27 @@ use borrow.Author.Rules.{rules}
 use Rattle.unit_alarms_list.proofs.clear.Statement.{statement}
 use Rattle.unit_alarms_list.proofs.clear.Tie as tie
 
-open-count-requires : tie.Need-open-count-requires
+open-count-requires : tie.Need-open_count-n-requires
 open-count-requires c κs = search rules
 
-find-requires : tie.Need-find-requires
+find-requires : tie.Need-find-i-requires
 find-requires c κs = search rules
 
-returns : tie.Need-returns
+returns : tie.Need-returns-then-i-n
 returns c =
-    let a = c.before.before.before.before.before.args in
-    refused-clearing _ _ a.identity c.before.before.open-count.ensures.0 c.before.find.ensures c.if1.true
+    let a = c.args in
+    refused-clearing _ _ a.identity c.open_count-n.ensures.0 c.find-i.ensures c.if-i-n.true
 
-without-one-requires : tie.Need-without-one-requires
+without-one-requires : tie.Need-without_one-requires
 without-one-requires c κs = search rules
 
-same_length : tie.Need-same-length
+same_length : tie.Need-shape_of-output
 same_length c = search rules
 
-returns-2 : tie.Need-returns-2
+returns-2 : tie.Need-returns
 returns-2 c =
-    let d = c.before.before.before.before in
-    let a = d.before.before.before.before.before.args in
-    done-clearing _ _ a.identity d.before.before.open-count.ensures.0 d.before.find.ensures d.if1.false c.before.before.without-one.ensures
+    let a = c.args in
+    done-clearing _ _ a.identity c.open_count-n.ensures.0 c.find-i.ensures c.if-i-n.false c.without_one.ensures
 
 pub clear_spec : {M : Type 1} → statement M
 clear_spec =

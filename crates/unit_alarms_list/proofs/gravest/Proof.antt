@@ -4,12 +4,12 @@ use borrow.Author.Rules.{rules}
 use Rattle.unit_alarms_list.proofs.gravest.Statement.{statement}
 use Rattle.unit_alarms_list.proofs.gravest.Tie as tie
 
-alarm-at-requires : tie.Need-alarm-at-requires
+alarm-at-requires : tie.Need-alarm_at-requires
 alarm-at-requires c κs = search rules
 
 returns : tie.Need-returns
 unfolding kept_for_home
-returns c = c.alarm-at.ensures.0
+returns c = c.alarm_at.ensures.0
 
-pub gravest-spec : {M : Type 1} → statement M
-gravest-spec = tie.close (tie.spec alarm-at-requires returns)
+pub gravest_spec : {M : Type 1} → statement M
+gravest_spec = tie.close (tie.spec alarm-at-requires returns)

@@ -5,13 +5,13 @@ use borrow.Author.Rules.{rules}
 use Rattle.unit_alarms_list.proofs.fields.alarm_at.Statement.{statement}
 use Rattle.unit_alarms_list.proofs.fields.alarm_at.Tie as tie
 
-number-requires : tie.Need-number-requires
+number-requires : tie.Need-number-w-requires
 number-requires c κs = search rules
 
 returns : tie.Need-returns
 returns c =
-    let w = c.number.ensures in
-    (word-alarm _ _ (λ i. omega (arith, c.before.shared-slice-known.given i)) w.0, record { identity = omega arith; class = omega arith; second = omega arith })
+    let w = c.number-w.ensures in
+    (word-alarm _ _ (λ i. omega (arith, c.shared_slice_known-1.given i)) w.0, record { identity = omega arith; class = omega arith; second = omega arith })
 
-pub alarm-at-spec : {M : Type 1} → statement M
-alarm-at-spec = tie.close (tie.spec number-requires returns)
+pub alarm_at_spec : {M : Type 1} → statement M
+alarm_at_spec = tie.close (tie.spec number-requires returns)

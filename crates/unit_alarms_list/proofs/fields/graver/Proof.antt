@@ -5,14 +5,14 @@ use borrow.Author.Rules.{rules}
 use Rattle.unit_alarms_list.proofs.fields.graver.Statement.{statement}
 use Rattle.unit_alarms_list.proofs.fields.graver.Tie as tie
 
-goes-before-requires : tie.Need-goes-before-requires
+goes-before-requires : tie.Need-goes_before-requires
 goes-before-requires c κs = search rules
 
-returns : tie.Need-returns
-returns c = graver-second _ _ (sym c.before.goes_before.ensures ∙ c.if1.true)
+returns : tie.Need-returns-then-goes_before
+returns c = graver-second _ _ (sym c.goes_before.ensures ∙ c.if-goes_before.true)
 
-returns-2 : tie.Need-returns-2
-returns-2 c = graver-first _ _ (sym c.before.goes_before.ensures ∙ c.if1.false)
+returns-2 : tie.Need-returns-else-goes_before
+returns-2 c = graver-first _ _ (sym c.goes_before.ensures ∙ c.if-goes_before.false)
 
-pub graver-spec : {M : Type 1} → statement M
-graver-spec = tie.close (tie.spec goes-before-requires returns returns-2)
+pub graver_spec : {M : Type 1} → statement M
+graver_spec = tie.close (tie.spec goes-before-requires returns returns-2)

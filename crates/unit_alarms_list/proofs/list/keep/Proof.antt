@@ -7,30 +7,30 @@ use borrow.Author.Rules.{rules}
 use Rattle.unit_alarms_list.proofs.list.keep.Statement.{statement}
 use Rattle.unit_alarms_list.proofs.list.keep.Tie as tie
 
-add-copy : tie.Need-overflow-add-copy
+add-copy : tie.Need-overflow_add-from
 add-copy c = search rules
 
-sub-copy : tie.Need-overflow-sub-copy
+sub-copy : tie.Need-slice_bounds-copy-count
 sub-copy c = search rules
 
-part-copy-start : tie.Need-slice-bounds-copy-start
+part-copy-start : tie.Need-slice_bounds-copy-start
 part-copy-start c = search rules
 
-part-copy-end : tie.Need-slice-bounds-copy-end
+part-copy-end : tie.Need-slice_bounds-copy-end
 part-copy-end c = search rules
 
 copy-requires : tie.Need-copy-requires
 copy-requires c κs = search rules
 
-same_length : tie.Need-same-length
+same_length : tie.Need-shape_of-dst
 same_length c = search rules
 
 returns : tie.Need-returns
 unfolding part
 returns c =
-    let a = c.before.before.before.before.before.before.before.args in
+    let a = c.args in
     let e : a.from + a.n - a.from ≡ a.n = omega arith in
-    rw (← e) c.before.before.copy.ensures
+    rw (← e) c.copy.ensures
 
 pub keep_spec : {M : Type 1} → statement M
 keep_spec =

@@ -11,44 +11,38 @@ use Rattle.unit_alarms_list.proofs.list.with_one.Tie as tie
 clear-requires : tie.Need-clear-requires
 clear-requires c κs = search rules
 
-mul-keep : tie.Need-overflow-mul-keep
+mul-keep : tie.Need-overflow_mul-n
 mul-keep c = search rules
 
 keep-requires : tie.Need-keep-requires
 keep-requires c κs = search rules
 
-mul-put-alarm : tie.Need-overflow-mul-put-alarm
+mul-put-alarm : tie.Need-overflow_mul-n-2
 mul-put-alarm c = search rules
 
-add-put-alarm : tie.Need-overflow-add-put-alarm
+add-put-alarm : tie.Need-overflow_add-n
 add-put-alarm c = search rules
 
-put-alarm-requires : tie.Need-put-alarm-requires
+put-alarm-requires : tie.Need-put_alarm-requires
 put-alarm-requires c κs = search rules
 
-add-seal : tie.Need-overflow-add-seal
+add-seal : tie.Need-overflow_add-n-2
 add-seal c = search rules
 
 seal-requires : tie.Need-seal-requires
 seal-requires c κs = search rules
 
-same_length : tie.Need-same-length
+same_length : tie.Need-shape_of-output
 same_length c = search rules
 
 returns : tie.Need-returns
 returns c =
-    let c4 = c.before.before in
-    let c3 = c4.before.before.before.before in
-    let c2 = c3.before.before.before.before in
-    let c1 = c2.before.before.before.before in
-    let k = c1.before.before in
-    let s = k.before.before in
-    let byte : (i : ℕ) → get_or s.args.s.now i 0 < 256 = λ i. omega (arith, k.shared-slice-known.given i) in
-    packed-with s.args.s.now byte s.requires.1 (c1.clear.ensures ∙ cleared _ s.requires.0) s.args.n s.args.a s.requires.2 s.requires.3
-    c2.keep.ensures c3.put-alarm.ensures c4.seal.ensures
+    let byte : (i : ℕ) → get_or c.args.s.now i 0 < 256 = λ i. omega (arith, c.shared_slice_known-1.given i) in
+    packed-with c.args.s.now byte c.requires.1 (c.clear.ensures ∙ cleared _ c.requires.0) c.args.n c.args.a c.requires.2 c.requires.3
+    c.keep.ensures c.put_alarm.ensures c.seal.ensures
 
-pub with-one-spec : {M : Type 1} → statement M
-with-one-spec =
+pub with_one_spec : {M : Type 1} → statement M
+with_one_spec =
     tie.close
     (tie.spec
     clear-requires
