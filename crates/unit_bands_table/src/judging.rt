@@ -10,7 +10,7 @@ ghost use Rattle.unit_bands_table.specs.Sweep.{rest, row_at, rising, width, comm
 use crate::rows::{DEPTHS, fit, holder, sized, sound, starter, two_bytes};
 
 // The answer, 0, 11, 12 or 13, and the millimetre that 12 and 13 tell.
-#[derive(Drop)]
+#[derive(Clone, Copy)]
 pub struct Verdict {
     pub code: u64,
     pub millimetre: u64,

@@ -9,7 +9,7 @@ use crate::rows::find;
 pub const SIZE: usize = 192;
 
 // What a lookup finds: 0 and a row, or 11 and zeros.
-#[derive(Drop)]
+#[derive(Clone, Copy)]
 pub struct Lookup {
     pub code: u64,
     pub from: u64,

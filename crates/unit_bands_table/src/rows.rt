@@ -8,7 +8,7 @@ ghost use Rattle.unit_bands_table.specs.Sweep.{row_at, sized, starting};
 pub const DEPTHS: u64 = 10000;
 
 // A row as it is told: both ends, and pumps.
-#[derive(Drop)]
+#[derive(Clone, Copy)]
 pub struct Row {
     pub from: u64,
     pub to: u64,
