@@ -1,34 +1,34 @@
 -- What acts do to the book's list of commits: a done transact adds one, with its figure for a ticket; no act adds more, and none takes one that is owed.
 -- Assumes nothing.
-use Prim.Native.Nat.{ℕ, zero, suc, ◌+◌, ◌*◌, ◌/◌, ◌≤◌, ◌<◌}
+use Prim.Native.Nat.{ℕ, zero, suc, ◌+◌, ◌*◌, ◌/◌, ◌≤◌}
 use mathlib.Core.Path.{◌≡◌, refl, sym, ap, ◌∙◌, subst}
 use mathlib.Core.Bool.{Bool, true, false, cond, not}
 use mathlib.Core.List.{List, [], ◌∷◌, ◌++◌}
-use mathlib.Core.Option.{Option, none, some}
+use mathlib.Core.Option.{none, some}
 use native.Mathlib.Omega.{arith}
 use lib.Dec.{eqb}
 use lib.ListN.{length, length-append}
-use borrow.Author.Tests.{eq-eqb, eqb-true, eqb-false, ne_eqb}
+use borrow.Author.Tests.{eq-eqb, eqb-true, eqb-false}
 use Rattle.model.specs.Bytes.{part}
 use Rattle.model.specs.Book.{Commit, Held, Task, idle, opened, Book, with_task, add_commit, filled_up, entry_of, commit_task}
 use Rattle.model.specs.Book as book
 use Rattle.model.specs.Calls.{Outcome, size_of}
 use Rattle.model.specs.Effects.{Given}
-use Rattle.model.specs.History.{Call, begin, store, commit, change, commits, Event, call, crash, World, lent, ends, is_opening, feed, feed_change, after_done, after_refused, after_call, step, after, Allowed, AllAllowed}
+use Rattle.model.specs.History.{Call, begin, store, commit, Event, call, World, lent, ends, is_opening, feed, feed_change, after_done, after_refused, after_call, step, after, AllAllowed}
 use Rattle.theorems.specs.Isolation.{followed}
 use Rattle.abstract_store.specs.Store.{Store, commit_must_log, next_of, told, reply_change, reply, reply_of, Reply}
 use Rattle.acts.specs.Many.{transact_effect, transact_answer, transact_call}
 use Rattle.acts.specs.Units.{Act, plain, transacts, fetches, revises, transact_ends, feed_stores, feed_transact, left_under, act, ActAllowed, roomy, stores_from, chain, expand}
-use Rattle.acts.proofs.ManyLaws.{TransactReady, transact-ready}
+use Rattle.acts.proofs.ManyLaws.{transact-ready}
 use Rattle.theorems.proofs.steps.DoneLaws.{outcome-code}
 use Rattle.theorems.proofs.steps.HeldLogs.{filled-commits}
 use Rattle.theorems.proofs.store.StoreLaws.{reply-outcome}
 use Rattle.theorems.proofs.store.Reached.{Reached, after-append, goes_on, goes-along, call-answers, same-book}
-use Rattle.theorems.proofs.many.TransactBooks.{held_after, Chained, chained}
+use Rattle.theorems.proofs.many.TransactBooks.{Chained, chained}
 use Rattle.theorems.proofs.many.ManyRuns.{ChainTold, chain-told}
 use Rattle.theorems.proofs.many.ActsHold.{act-expands, refused-stays, fetch-stays, revise-stays}
 use Rattle.unit_events.proofs.PromisesHold.{refusals-stay}
-use Rattle.unit_joint.proofs.CommitsKept.{At, Owed, Ticket, Steady, at_front, call_at, event-grows, event-owed, store-grown}
+use Rattle.unit_joint.proofs.CommitsKept.{At, Owed, Ticket, at_front, event-grows, event-owed, store-grown}
 
 -- ---- the commit that a done transact adds
 

@@ -1,6 +1,6 @@
 -- The history of specs/Example meets the premises of `JointKept`, `DoneIsLast` and `ConfirmedStays`, which therefore say something of it; the list at its end, and
 -- the ticket that the confirm just reaches, by computation.
-use Prim.Native.Nat.{ℕ, suc, ◌+◌, ◌/◌, ◌≤◌}
+use Prim.Native.Nat.{ℕ, suc, ◌/◌, ◌≤◌}
 use mathlib.Core.Path.{◌≡◌, refl, subst}
 use mathlib.Core.Logic.{inl}
 use mathlib.Core.Bool.{Bool, true}

@@ -1,10 +1,10 @@
 -- A joint history as the table, each pump and the alarms see it. Assumes nothing.
-use Prim.Native.Nat.{ℕ, zero, suc, ◌+◌, ◌*◌, ◌/◌, ◌≤◌, ◌<◌}
-use mathlib.Core.Path.{◌≡◌, refl, sym, ap, ◌∙◌, subst}
+use Prim.Native.Nat.{ℕ, ◌+◌, ◌*◌, ◌/◌, ◌≤◌, ◌<◌}
+use mathlib.Core.Path.{◌≡◌, refl, sym, ap}
 use mathlib.Core.Logic.{inl, inr}
 use mathlib.Core.Bool.{Bool, true, false, cond}
-use mathlib.Core.List.{List, [], ◌∷◌}
-use mathlib.Core.Option.{Option, none, some}
+use mathlib.Core.List.{List}
+use mathlib.Core.Option.{none, some}
 use native.Mathlib.Decide.{dec_lt}
 use native.Mathlib.Omega.{arith}
 use lib.Dec.{eqb}
@@ -24,8 +24,7 @@ use Rattle.unit_hours_book.specs.Stored as pumps
 use Rattle.unit_hours_book.proofs.StoredHolds as pump-laws
 use Rattle.unit_alarms_list.specs.Guarantees as alarms
 use Rattle.unit_alarms_list.specs.Stored as panel
-use Rattle.unit_alarms_list.proofs.StoredHolds as panel-laws
-use Rattle.unit_joint.specs.Joint.{Step, acts, sets_table, pump_event, alarm_event, acts_of, stepped, Done, table_set, pump_done, alarm_done, note_of, of_table, of_pump, of_alarms}
+use Rattle.unit_joint.specs.Joint.{acts, sets_table, pump_event, alarm_event, acts_of, stepped, table_set, pump_done, alarm_done, note_of, of_table, of_pump, of_alarms}
 use Rattle.unit_joint.proofs.UnitCalls.{asks, home_of, blocks_of}
 use Rattle.unit_joint.proofs.Views.{StepsViewed, ViewedStep, own-step, act-step, other_step}
 

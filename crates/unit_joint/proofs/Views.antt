@@ -1,20 +1,18 @@
 -- A joint history as each unit sees it: its own steps, and the others' as the acts that they come to, which spare its homes. Assumes nothing.
-use Prim.Native.Nat.{ℕ, zero, suc, ◌+◌, ◌*◌, ◌/◌, ◌≤◌, ◌<◌}
+use Prim.Native.Nat.{ℕ, zero, suc, ◌/◌}
 use mathlib.Core.Path.{◌≡◌, refl, sym, ap, ◌∙◌, subst}
-use mathlib.Core.Logic.{inl, inr}
-use mathlib.Core.Bool.{Bool, true, false, cond}
+use mathlib.Core.Bool.{Bool, true, false}
 use mathlib.Core.List.{List, [], ◌∷◌, ◌++◌, map}
 use mathlib.Core.Option.{Option, none, some}
-use native.Mathlib.Omega.{arith}
 use lib.Dec.{eqb}
 use lib.ListN.{length, take}
 use lib.Seq.{take_at}
 use borrow.Author.Tests.{eqb-true, eqb-false}
 use Rattle.model.specs.History.{World}
-use Rattle.acts.specs.Units.{Act, transacts, act, acted, ActAllowed, relabel, Apart}
+use Rattle.acts.specs.Units.{Act, act, acted, ActAllowed, relabel, Apart}
 use Rattle.unit_events.specs.Folded as unit
 use Rattle.unit_events.specs.Folded.{acts as acts_in}
-use Rattle.unit_joint.specs.Joint.{Step, acts, stepped, ran, acts_of, Done, note_of, notes_from, StepAllowed, JointAllowed, StepFits, JointFits}
+use Rattle.unit_joint.specs.Joint.{Step, stepped, ran, acts_of, Done, note_of, notes_from, StepAllowed, JointAllowed, StepFits, JointFits}
 use Rattle.unit_joint.proofs.UnitCalls.{asks, home_of, blocks_of}
 use Rattle.unit_joint.proofs.NotesKept.{stores_by, unit-done, unit-refused, Going, step-goes}
 
