@@ -1,5 +1,7 @@
 // The store object as a machine for a driver: an operation is asked for, and each turn answers with what the driver is to do next. No callback, no heap:
 // what it keeps between two turns stands in a control block that the caller lends.
+#![tactic(auto)]
+
 pub mod asks;
 mod calls;
 mod fields;
@@ -8,7 +10,7 @@ pub mod next;
 mod turns;
 
 // What the control block holds, eight bytes each.
-#[derive(Drop)]
+#[derive(Clone, Copy)]
 pub struct Control {
     // 1 closed, 2 ready, 3 failed; then the driver's error
     pub condition: u64,
@@ -38,7 +40,7 @@ pub struct Control {
 // `offset` of `area` (0 the log, 1 the homes), which lie in `source` (0 the batch, 1 the log copy) from index `from` on; 2 fence; 3 load `size` bytes from
 // `offset` of `area` on into its copy; 4 nothing. Unless it is over, ask next with the driver's result (0 for nothing).
 #[repr(C)]
-#[derive(Drop)]
+#[derive(Clone, Copy)]
 pub struct Turn {
     pub kind: u64,
     pub area: u64,
@@ -51,7 +53,7 @@ pub struct Turn {
 }
 
 // A turn with what it leaves in the control block.
-#[derive(Drop)]
+#[derive(Clone, Copy)]
 pub struct Moved {
     pub control: Control,
     pub turn: Turn,

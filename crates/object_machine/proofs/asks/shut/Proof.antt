@@ -4,17 +4,17 @@ use Rattle.object_machine.specs.Next.{shut}
 use Rattle.object_machine.proofs.asks.shut.Statement.{statement}
 use Rattle.object_machine.proofs.asks.shut.Tie as tie
 
-returns : tie.Need-returns
+returns : tie.Need-returns-then-c-eq2
 unfolding shut
-returns c = rw (eq-eqb _ 2 c.if1.true)
+returns c = rw (eq-eqb _ 2 c.if-c-eq2.true)
 
-returns-2 : tie.Need-returns-2
+returns-2 : tie.Need-returns-then-c-eq1
 unfolding shut
-returns-2 c = rw (ne_eqb _ 2 c.before.before.if1.false, eq-eqb _ 1 c.if2.true)
+returns-2 c = rw (ne_eqb _ 2 c.if-c-eq2.false, eq-eqb _ 1 c.if-c-eq1.true)
 
-returns-3 : tie.Need-returns-3
+returns-3 : tie.Need-returns
 unfolding shut
-returns-3 c = rw (ne_eqb _ 2 c.before.before.if1.false, ne_eqb _ 1 c.if2.false)
+returns-3 c = rw (ne_eqb _ 2 c.if-c-eq2.false, ne_eqb _ 1 c.if-c-eq1.false)
 
-pub shut-spec : {M : Type 1} → statement M
-shut-spec = tie.close (tie.spec returns returns-2 returns-3)
+pub shut_spec : {M : Type 1} → statement M
+shut_spec = tie.close (tie.spec returns returns-2 returns-3)

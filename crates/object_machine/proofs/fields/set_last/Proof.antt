@@ -4,27 +4,27 @@ use borrow.Author.Rules.{rules}
 use Rattle.object_machine.proofs.fields.set_last.Statement.{statement}
 use Rattle.object_machine.proofs.fields.set_last.Tie as tie
 
-put-number-requires : tie.Need-put-number-requires
+put-number-requires : tie.Need-put_number-requires
 put-number-requires c κs = search rules
 
-put-number-requires-2 : tie.Need-put-number-requires-2
+put-number-requires-2 : tie.Need-put_number-requires-2
 put-number-requires-2 c κs = search rules
 
-put-number-requires-3 : tie.Need-put-number-requires-3
+put-number-requires-3 : tie.Need-put_number-requires-3
 put-number-requires-3 c κs = search rules
 
-put-number-requires-4 : tie.Need-put-number-requires-4
+put-number-requires-4 : tie.Need-put_number-requires-4
 put-number-requires-4 c κs = search rules
 
-put-number-requires-5 : tie.Need-put-number-requires-5
+put-number-requires-5 : tie.Need-put_number-requires-5
 put-number-requires-5 c κs = search rules
 
-same_length : tie.Need-same-length
+same_length : tie.Need-shape_of-s
 same_length c = search rules
 
 returns : tie.Need-returns
 unfolding put_numbers last_fields
-returns c = rw (c.before.before.put-number5.ensures, c.before.before.before.before.before.before.put-number4.ensures, c.before.before.before.before.before.before.before.before.before.before.put-number3.ensures, c.before.before.before.before.before.before.before.before.before.before.before.before.before.before.put-number2.ensures, c.before.before.before.before.before.before.before.before.before.before.before.before.before.before.before.before.before.before.put-number.ensures)
+returns c = rw (c.put_number-5.ensures, c.put_number-4.ensures, c.put_number-3.ensures, c.put_number-2.ensures, c.put_number.ensures)
 
-pub set-last-spec : {M : Type 1} → statement M
-set-last-spec = tie.close (tie.spec put-number-requires put-number-requires-2 put-number-requires-3 put-number-requires-4 put-number-requires-5 same_length returns)
+pub set_last_spec : {M : Type 1} → statement M
+set_last_spec = tie.close (tie.spec put-number-requires put-number-requires-2 put-number-requires-3 put-number-requires-4 put-number-requires-5 same_length returns)

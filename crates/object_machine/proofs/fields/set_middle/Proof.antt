@@ -4,30 +4,30 @@ use borrow.Author.Rules.{rules}
 use Rattle.object_machine.proofs.fields.set_middle.Statement.{statement}
 use Rattle.object_machine.proofs.fields.set_middle.Tie as tie
 
-put-number-requires : tie.Need-put-number-requires
+put-number-requires : tie.Need-put_number-requires
 put-number-requires c κs = search rules
 
-put-number-requires-2 : tie.Need-put-number-requires-2
+put-number-requires-2 : tie.Need-put_number-requires-2
 put-number-requires-2 c κs = search rules
 
-put-number-requires-3 : tie.Need-put-number-requires-3
+put-number-requires-3 : tie.Need-put_number-requires-3
 put-number-requires-3 c κs = search rules
 
-put-number-requires-4 : tie.Need-put-number-requires-4
+put-number-requires-4 : tie.Need-put_number-requires-4
 put-number-requires-4 c κs = search rules
 
-put-number-requires-5 : tie.Need-put-number-requires-5
+put-number-requires-5 : tie.Need-put_number-requires-5
 put-number-requires-5 c κs = search rules
 
-put-number-requires-6 : tie.Need-put-number-requires-6
+put-number-requires-6 : tie.Need-put_number-requires-6
 put-number-requires-6 c κs = search rules
 
-same_length : tie.Need-same-length
+same_length : tie.Need-shape_of-s
 same_length c = search rules
 
 returns : tie.Need-returns
 unfolding put_numbers middle_fields
-returns c = rw (c.before.before.put-number6.ensures, c.before.before.before.before.before.before.put-number5.ensures, c.before.before.before.before.before.before.before.before.before.before.put-number4.ensures, c.before.before.before.before.before.before.before.before.before.before.before.before.before.before.put-number3.ensures, c.before.before.before.before.before.before.before.before.before.before.before.before.before.before.before.before.before.before.put-number2.ensures, c.before.before.before.before.before.before.before.before.before.before.before.before.before.before.before.before.before.before.before.before.before.before.put-number.ensures)
+returns c = rw (c.put_number-6.ensures, c.put_number-5.ensures, c.put_number-4.ensures, c.put_number-3.ensures, c.put_number-2.ensures, c.put_number.ensures)
 
-pub set-middle-spec : {M : Type 1} → statement M
-set-middle-spec = tie.close (tie.spec put-number-requires put-number-requires-2 put-number-requires-3 put-number-requires-4 put-number-requires-5 put-number-requires-6 same_length returns)
+pub set_middle_spec : {M : Type 1} → statement M
+set_middle_spec = tie.close (tie.spec put-number-requires put-number-requires-2 put-number-requires-3 put-number-requires-4 put-number-requires-5 put-number-requires-6 same_length returns)

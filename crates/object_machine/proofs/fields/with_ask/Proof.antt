@@ -8,5 +8,5 @@ returns : tie.Need-returns
 unfolding with_ask
 returns c = refl
 
-pub with-ask-spec : {M : Type 1} → statement M
-with-ask-spec = tie.close (tie.spec returns)
+pub with_ask_spec : {M : Type 1} → statement M
+with_ask_spec = tie.close (tie.spec returns)

@@ -8,5 +8,5 @@ returns : tie.Need-returns
 unfolding with_batch
 returns c = refl
 
-pub with-batch-spec : {M : Type 1} → statement M
-with-batch-spec = tie.close (tie.spec returns)
+pub with_batch_spec : {M : Type 1} → statement M
+with_batch_spec = tie.close (tie.spec returns)

@@ -8,5 +8,5 @@ returns : tie.Need-returns
 unfolding with_condition
 returns c = refl
 
-pub with-condition-spec : {M : Type 1} → statement M
-with-condition-spec = tie.close (tie.spec returns)
+pub with_condition_spec : {M : Type 1} → statement M
+with_condition_spec = tie.close (tie.spec returns)

@@ -8,5 +8,5 @@ returns : tie.Need-returns
 unfolding with_cursor
 returns c = refl
 
-pub with-cursor-spec : {M : Type 1} → statement M
-with-cursor-spec = tie.close (tie.spec returns)
+pub with_cursor_spec : {M : Type 1} → statement M
+with_cursor_spec = tie.close (tie.spec returns)

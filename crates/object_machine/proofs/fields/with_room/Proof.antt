@@ -8,5 +8,5 @@ returns : tie.Need-returns
 unfolding with_room
 returns c = refl
 
-pub with-room-spec : {M : Type 1} → statement M
-with-room-spec = tie.close (tie.spec returns)
+pub with_room_spec : {M : Type 1} → statement M
+with_room_spec = tie.close (tie.spec returns)

@@ -8,5 +8,5 @@ returns : tie.Need-returns
 unfolding with_stage
 returns c = refl
 
-pub with-stage-spec : {M : Type 1} → statement M
-with-stage-spec = tie.close (tie.spec returns)
+pub with_stage_spec : {M : Type 1} → statement M
+with_stage_spec = tie.close (tie.spec returns)

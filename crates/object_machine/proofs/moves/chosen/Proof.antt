@@ -5,30 +5,30 @@ use borrow.Author.Rules.{rules}
 use Rattle.object_machine.proofs.moves.chosen.Statement.{statement}
 use Rattle.object_machine.proofs.moves.chosen.Tie as tie
 
-returns : tie.Need-returns
+returns : tie.Need-returns-then-c-gt18
 unfolding chosen
-returns c = rw (lt-leb _ 18 c.if1.true)
+returns c = rw (lt-leb _ 18 c.if-c-gt18.true)
 
 guarded-requires : tie.Need-guarded-requires
 guarded-requires c κs = search rules
 
-returns-2 : tie.Need-returns-2
+returns-2 : tie.Need-returns-then-c-guarded
 unfolding chosen
-returns-2 c = rw (le-leb _ 18 c.before.before.before.if1.false, ← c.before.guarded.ensures, c.if2.true)
+returns-2 c = rw (le-leb _ 18 c.if-c-gt18.false, ← c.guarded.ensures, c.if-c-guarded.true)
 
 settled-requires : tie.Need-settled-requires
 settled-requires c κs = search rules
 
-returns-3 : tie.Need-returns-3
+returns-3 : tie.Need-returns-then-c-settled
 unfolding chosen
-returns-3 c = rw (le-leb _ 18 c.before.before.before.before.before.before.if1.false, ← c.before.before.before.before.guarded.ensures, c.before.before.before.if2.false, ← c.before.settled.ensures, c.if3.true)
+returns-3 c = rw (le-leb _ 18 c.if-c-gt18.false, ← c.guarded.ensures, c.if-c-guarded.false, ← c.settled.ensures, c.if-c-settled.true)
 
-at-stage-requires : tie.Need-at-stage-requires
+at-stage-requires : tie.Need-at_stage-requires
 at-stage-requires c κs = search rules
 
-returns-4 : tie.Need-returns-4
+returns-4 : tie.Need-returns
 unfolding chosen
-returns-4 c = rw (le-leb _ 18 c.before.before.before.before.before.before.before.if1.false, ← c.before.before.before.before.before.guarded.ensures, c.before.before.before.before.if2.false, ← c.before.before.settled.ensures, c.before.if3.false) c.at_stage.ensures
+returns-4 c = rw (le-leb _ 18 c.if-c-gt18.false, ← c.guarded.ensures, c.if-c-guarded.false, ← c.settled.ensures, c.if-c-settled.false) c.at_stage.ensures
 
-pub chosen-spec : {M : Type 1} → statement M
-chosen-spec = tie.close (tie.spec returns guarded-requires returns-2 settled-requires returns-3 at-stage-requires returns-4)
+pub chosen_spec : {M : Type 1} → statement M
+chosen_spec = tie.close (tie.spec returns guarded-requires returns-2 settled-requires returns-3 at-stage-requires returns-4)

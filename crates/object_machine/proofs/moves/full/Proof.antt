@@ -4,21 +4,21 @@ use Rattle.object_machine.specs.Moves.{full}
 use Rattle.object_machine.proofs.moves.full.Statement.{statement}
 use Rattle.object_machine.proofs.moves.full.Tie as tie
 
-returns : tie.Need-returns
+returns : tie.Need-returns-then-stage-eq2
 unfolding full
-returns c = rw (eq-eqb _ 2 c.if1.true)
+returns c = rw (eq-eqb _ 2 c.if-stage-eq2.true)
 
-returns-2 : tie.Need-returns-2
+returns-2 : tie.Need-returns-then-stage-eq5
 unfolding full
-returns-2 c = rw (ne_eqb _ 2 c.before.if1.false, eq-eqb _ 5 c.if2.true)
+returns-2 c = rw (ne_eqb _ 2 c.if-stage-eq2.false, eq-eqb _ 5 c.if-stage-eq5.true)
 
-returns-3 : tie.Need-returns-3
+returns-3 : tie.Need-returns-then-stage
 unfolding full
-returns-3 c = rw (ne_eqb _ 2 c.before.before.if1.false, ne_eqb _ 5 c.before.if2.false, c.if3.true)
+returns-3 c = rw (ne_eqb _ 2 c.if-stage-eq2.false, ne_eqb _ 5 c.if-stage-eq5.false, c.if-stage.true)
 
-returns-4 : tie.Need-returns-4
+returns-4 : tie.Need-returns
 unfolding full
-returns-4 c = rw (ne_eqb _ 2 c.before.before.if1.false, ne_eqb _ 5 c.before.if2.false, c.if3.false)
+returns-4 c = rw (ne_eqb _ 2 c.if-stage-eq2.false, ne_eqb _ 5 c.if-stage-eq5.false, c.if-stage.false)
 
-pub full-spec : {M : Type 1} → statement M
-full-spec = tie.close (tie.spec returns returns-2 returns-3 returns-4)
+pub full_spec : {M : Type 1} → statement M
+full_spec = tie.close (tie.spec returns returns-2 returns-3 returns-4)

@@ -8,5 +8,5 @@ returns : tie.Need-returns
 unfolding guarded
 returns c = refl
 
-pub guarded-spec : {M : Type 1} → statement M
-guarded-spec = tie.close (tie.spec returns)
+pub guarded_spec : {M : Type 1} → statement M
+guarded_spec = tie.close (tie.spec returns)

@@ -8,5 +8,5 @@ returns : tie.Need-returns
 unfolding held_back_by
 returns c = refl
 
-pub held-back-spec : {M : Type 1} → statement M
-held-back-spec = tie.close (tie.spec returns)
+pub held_back_spec : {M : Type 1} → statement M
+held_back_spec = tie.close (tie.spec returns)

@@ -8,5 +8,5 @@ returns : tie.Need-returns
 unfolding under_way
 returns c = refl
 
-pub in-round-spec : {M : Type 1} → statement M
-in-round-spec = tie.close (tie.spec returns)
+pub in_round_spec : {M : Type 1} → statement M
+in_round_spec = tie.close (tie.spec returns)

@@ -7,12 +7,12 @@ use Rattle.object_machine.proofs.moves.may_make_room.Tie as tie
 possible-requires : tie.Need-possible-requires
 possible-requires c κs = search rules
 
-held-back-requires : tie.Need-held-back-requires
+held-back-requires : tie.Need-held_back-requires
 held-back-requires c κs = search rules
 
 returns : tie.Need-returns
 unfolding may_make_room
-returns c = rw (← c.before.possible.ensures, ← c.held_back.ensures)
+returns c = rw (← c.possible.ensures, ← c.held_back.ensures)
 
-pub may-make-room-spec : {M : Type 1} → statement M
-may-make-room-spec = tie.close (tie.spec possible-requires held-back-requires returns)
+pub may_make_room_spec : {M : Type 1} → statement M
+may_make_room_spec = tie.close (tie.spec possible-requires held-back-requires returns)

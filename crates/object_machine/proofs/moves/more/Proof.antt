@@ -4,19 +4,19 @@ use borrow.Author.Rules.{rules}
 use Rattle.object_machine.proofs.moves.more.Statement.{statement}
 use Rattle.object_machine.proofs.moves.more.Tie as tie
 
-in-round-requires : tie.Need-in-round-requires
+in-round-requires : tie.Need-in_round-requires
 in-round-requires c κs = search rules
 
 settled-requires : tie.Need-settled-requires
 settled-requires c κs = search rules
 
-returns : tie.Need-returns
+returns : tie.Need-returns-then-in_round-settled
 unfolding more
-returns c = rw (← c.before.before.in-round.ensures, ← c.before.settled.ensures, c.if1.true)
+returns c = rw (← c.in_round.ensures, ← c.settled.ensures, c.if-in_round-settled.true)
 
-returns-2 : tie.Need-returns-2
+returns-2 : tie.Need-returns
 unfolding more
-returns-2 c = rw (← c.before.before.in-round.ensures, ← c.before.settled.ensures, c.if1.false)
+returns-2 c = rw (← c.in_round.ensures, ← c.settled.ensures, c.if-in_round-settled.false)
 
-pub more-spec : {M : Type 1} → statement M
-more-spec = tie.close (tie.spec in-round-requires settled-requires returns returns-2)
+pub more_spec : {M : Type 1} → statement M
+more_spec = tie.close (tie.spec in-round-requires settled-requires returns returns-2)

@@ -5,12 +5,12 @@ use borrow.Author.Rules.{rules}
 use Rattle.object_machine.proofs.moves.possible.Statement.{statement}
 use Rattle.object_machine.proofs.moves.possible.Tie as tie
 
-mul-result : tie.Need-overflow-mul-result
+mul-result : tie.Need-overflow_mul-result
 mul-result c = search rules
 
 returns : tie.Need-returns
 unfolding possible
 returns c = refl
 
-pub possible-spec : {M : Type 1} → statement M
-possible-spec = tie.close (tie.spec mul-result returns)
+pub possible_spec : {M : Type 1} → statement M
+possible_spec = tie.close (tie.spec mul-result returns)

@@ -7,38 +7,38 @@ use Rattle.object_machine.proofs.moves.refuses.Tie as tie
 full-requires : tie.Need-full-requires
 full-requires c κs = search rules
 
-may-make-room-requires : tie.Need-may-make-room-requires
+may-make-room-requires : tie.Need-may_make_room-requires
 may-make-room-requires c κs = search rules
 
-with-room-requires : tie.Need-with-room-requires
+with-room-requires : tie.Need-with_room-requires
 with-room-requires c κs = search rules
 
 passes-requires : tie.Need-passes-requires
 passes-requires c κs = search rules
 
-returns : tie.Need-returns
+returns : tie.Need-returns-then-code-full
 unfolding refuses
-returns c = rw (← c.before.before.before.before.full.ensures, ← c.before.before.before.may-make-room.ensures, c.before.before.if1.true, ← c.before.with-room.ensures) c.passes.ensures
+returns c = rw (← c.full.ensures, ← c.may_make_room.ensures, c.if-code-full.true, ← c.with_room.ensures) c.passes.ensures
 
-with-stage-requires : tie.Need-with-stage-requires
+with-stage-requires : tie.Need-with_stage-requires
 with-stage-requires c κs = search rules
 
-passes-requires-2 : tie.Need-passes-requires-2
+passes-requires-2 : tie.Need-passes-requires-then-c-code
 passes-requires-2 c κs = search rules
 
-returns-2 : tie.Need-returns-2
+returns-2 : tie.Need-returns-then-c-code
 unfolding refuses
-returns-2 c = rw (← c.before.before.before.before.before.before.full.ensures, ← c.before.before.before.before.before.may-make-room.ensures, c.before.before.before.before.if1.false, c.before.before.if2.true, ← c.before.with-stage.ensures) c.passes2.ensures
+returns-2 c = rw (← c.full.ensures, ← c.may_make_room.ensures, c.if-code-full.false, c.if-c-code.true, ← c.with_stage.ensures) c.passes-then-c-code.ensures
 
-tells-holder-requires : tie.Need-tells-holder-requires
+tells-holder-requires : tie.Need-tells_holder-requires
 tells-holder-requires c κs = search rules
 
 answers-requires : tie.Need-answers-requires
 answers-requires c κs = search rules
 
-returns-3 : tie.Need-returns-3
+returns-3 : tie.Need-returns
 unfolding refuses
-returns-3 c = rw (← c.before.before.before.before.before.before.full.ensures, ← c.before.before.before.before.before.may-make-room.ensures, c.before.before.before.before.if1.false, c.before.before.if2.false, ← c.before.tells-holder.ensures) c.answers.ensures
+returns-3 c = rw (← c.full.ensures, ← c.may_make_room.ensures, c.if-code-full.false, c.if-c-code.false, ← c.tells_holder.ensures) c.answers.ensures
 
-pub refuses-spec : {M : Type 1} → statement M
-refuses-spec = tie.close (tie.spec full-requires may-make-room-requires with-room-requires passes-requires returns with-stage-requires passes-requires-2 returns-2 tells-holder-requires answers-requires returns-3)
+pub refuses_spec : {M : Type 1} → statement M
+refuses_spec = tie.close (tie.spec full-requires may-make-room-requires with-room-requires passes-requires returns with-stage-requires passes-requires-2 returns-2 tells-holder-requires answers-requires returns-3)

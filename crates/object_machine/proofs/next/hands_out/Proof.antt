@@ -9,36 +9,36 @@ use Rattle.object_machine.proofs.next.hands_out.Tie as tie
 fails-requires : tie.Need-fails-requires
 fails-requires c κs = search rules
 
-returns : tie.Need-returns
+returns : tie.Need-returns-then-c-batch
 unfolding hands_out_now
-returns c = rw (lt-leb _ _ c.before.if1.true) c.fails.ensures
+returns c = rw (lt-leb _ _ c.if-c-batch.true) c.fails.ensures
 
-log-groups-requires : tie.Need-log-groups-requires
+log-groups-requires : tie.Need-log_groups-groups-requires
 log-groups-requires c κs = search rules
 
-data-homes-requires : tie.Need-data-homes-requires
+data-homes-requires : tie.Need-data_homes-homes-requires
 data-homes-requires c κs = search rules
 
-next-requires : tie.Need-next-requires
+next-requires : tie.Need-next-next-requires
 next-requires c κs = search rules
 
-sub-kagutin-next-action : tie.Need-overflow-sub-kagutin-next-action
+sub-kagutin-next-action : tie.Need-slice_bounds-kagutin_next_action-count
 sub-kagutin-next-action c = search rules
 
-part-kagutin-next-action-start : tie.Need-slice-bounds-kagutin-next-action-start
+part-kagutin-next-action-start : tie.Need-slice_bounds-kagutin_next_action-start
 part-kagutin-next-action-start c = search rules
 
-part-kagutin-next-action-end : tie.Need-slice-bounds-kagutin-next-action-end
+part-kagutin-next-action-end : tie.Need-slice_bounds-kagutin_next_action-end
 part-kagutin-next-action-end c = search rules
 
-kagutin-next-action-requires : tie.Need-kagutin-next-action-requires
+kagutin-next-action-requires : tie.Need-kagutin_next_action-a-requires
 kagutin-next-action-requires c κs = search rules
 
 handed-requires : tie.Need-handed-requires
 handed-requires c κs = search rules
 
-returns-2 : tie.Need-returns-2
-returns-2 c = hands-out-is _ _ _ _ _ _ _ c.before.before.before.before.before.before.if1.false c.before.before.before.before.before.log-groups.ensures c.before.before.before.before.data-homes.ensures c.before.before.before.next.ensures.0 c.before.kagutin-next-action.ensures c.handed.ensures
+returns-2 : tie.Need-returns
+returns-2 c = hands-out-is _ _ _ _ _ _ _ c.if-c-batch.false c.log_groups-groups.ensures c.data_homes-homes.ensures c.next-next.ensures.0 c.kagutin_next_action-a.ensures c.handed.ensures
 
-pub hands-out-spec : {M : Type 1} → statement M
-hands-out-spec = tie.close (tie.spec fails-requires returns log-groups-requires data-homes-requires next-requires sub-kagutin-next-action part-kagutin-next-action-start part-kagutin-next-action-end kagutin-next-action-requires handed-requires returns-2)
+pub hands_out_spec : {M : Type 1} → statement M
+hands_out_spec = tie.close (tie.spec fails-requires returns log-groups-requires data-homes-requires next-requires sub-kagutin-next-action part-kagutin-next-action-start part-kagutin-next-action-end kagutin-next-action-requires handed-requires returns-2)

@@ -5,16 +5,16 @@ use borrow.Author.Rules.{rules}
 use Rattle.object_machine.proofs.next.holder_for.Statement.{statement}
 use Rattle.object_machine.proofs.next.holder_for.Tie as tie
 
-returns : tie.Need-returns
+returns : tie.Need-returns-then-code-stage
 unfolding holder_for no_holder
-returns c = rw c.if1.true
+returns c = rw c.if-code-stage.true
 
 holder-requires : tie.Need-holder-requires
 holder-requires c κs = search rules
 
-returns-2 : tie.Need-returns-2
+returns-2 : tie.Need-returns
 unfolding holder_for
-returns-2 c = rw c.before.if1.false c.holder.ensures
+returns-2 c = rw c.if-code-stage.false c.holder.ensures
 
-pub holder-for-spec : {M : Type 1} → statement M
-holder-for-spec = tie.close (tie.spec returns holder-requires returns-2)
+pub holder_for_spec : {M : Type 1} → statement M
+holder_for_spec = tie.close (tie.spec returns holder-requires returns-2)

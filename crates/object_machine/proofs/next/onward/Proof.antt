@@ -5,32 +5,32 @@ use borrow.Author.Rules.{rules}
 use Rattle.object_machine.proofs.next.onward.Statement.{statement}
 use Rattle.object_machine.proofs.next.onward.Tie as tie
 
-picks-requires : tie.Need-picks-requires
+picks-requires : tie.Need-picks-k-requires
 picks-requires c κs = search rules
 
-makes-requires : tie.Need-makes-requires
+makes-requires : tie.Need-makes-r-requires
 makes-requires c κs = search rules
 
 ends-requires : tie.Need-ends-requires
 ends-requires c κs = search rules
 
-same_length : tie.Need-same-length
+same_length : tie.Need-shape_of-log
 same_length c = search rules
 
-same-length-2 : tie.Need-same-length-2
+same-length-2 : tie.Need-shape_of-area
 same-length-2 c = search rules
 
-same-length-3 : tie.Need-same-length-3
+same-length-3 : tie.Need-shape_of-state
 same-length-3 c = search rules
 
-same-length-4 : tie.Need-same-length-4
+same-length-4 : tie.Need-shape_of-newest
 same-length-4 c = search rules
 
-same-length-5 : tie.Need-same-length-5
+same-length-5 : tie.Need-shape_of-batch
 same-length-5 c = search rules
 
 returns : tie.Need-returns
-returns c = onward-is _ _ _ _ c.before.before.before.before.before.before.before.before.before.before.before.before.before.before.before.before.before.before.picks.ensures c.before.before.before.before.before.before.before.before.before.before.before.before.makes.ensures _ _ refl refl c.ends.ensures
+returns c = onward-is _ _ _ _ c.picks-k.ensures c.makes-r.ensures _ _ refl refl c.ends.ensures
 
-pub onward-spec : {M : Type 1} → statement M
-onward-spec = tie.close (tie.spec picks-requires makes-requires ends-requires same_length same-length-2 same-length-3 same-length-4 same-length-5 returns)
+pub onward_spec : {M : Type 1} → statement M
+onward_spec = tie.close (tie.spec picks-requires makes-requires ends-requires same_length same-length-2 same-length-3 same-length-4 same-length-5 returns)

@@ -3,7 +3,7 @@ use borrow.Author.Rules.{rules}
 use Rattle.object_machine.proofs.next.picks.Statement.{statement}
 use Rattle.object_machine.proofs.next.picks.Tie as tie
 
-data-homes-requires : tie.Need-data-homes-requires
+data-homes-requires : tie.Need-data_homes-homes-requires
 data-homes-requires c κs = search rules
 
 state-requires : tie.Need-state-requires
@@ -13,7 +13,7 @@ chosen-requires : tie.Need-chosen-requires
 chosen-requires c κs = search rules
 
 returns : tie.Need-returns
-returns c = rw (← c.before.state.ensures, ← c.before.before.data-homes.ensures) c.chosen.ensures
+returns c = rw (← c.state.ensures, ← c.data_homes-homes.ensures) c.chosen.ensures
 
-pub picks-spec : {M : Type 1} → statement M
-picks-spec = tie.close (tie.spec data-homes-requires state-requires chosen-requires returns)
+pub picks_spec : {M : Type 1} → statement M
+picks_spec = tie.close (tie.spec data-homes-requires state-requires chosen-requires returns)

@@ -9,7 +9,7 @@ known-requires c κs = search rules
 
 returns : tie.Need-returns
 unfolding under_way
-returns c = rw (← c.before.known.ensures)
+returns c = rw (← c.known.ensures)
 
-pub under-way-spec : {M : Type 1} → statement M
-under-way-spec = tie.close (tie.spec known-requires returns)
+pub under_way_spec : {M : Type 1} → statement M
+under_way_spec = tie.close (tie.spec known-requires returns)

@@ -4,7 +4,7 @@ use borrow.Author.Rules.{rules}
 use Rattle.object_machine.proofs.turns.answers.Statement.{statement}
 use Rattle.object_machine.proofs.turns.answers.Tie as tie
 
-with-stage-requires : tie.Need-with-stage-requires
+with-stage-requires : tie.Need-with_stage-requires
 with-stage-requires c κs = search rules
 
 done-requires : tie.Need-done-requires
@@ -15,7 +15,7 @@ moved-requires c κs = search rules
 
 returns : tie.Need-returns
 unfolding answers
-returns c = rw (← c.before.before.with-stage.ensures, ← c.before.done.ensures) c.moved.ensures
+returns c = rw (← c.with_stage.ensures, ← c.done.ensures) c.moved.ensures
 
-pub answers-spec : {M : Type 1} → statement M
-answers-spec = tie.close (tie.spec with-stage-requires done-requires moved-requires returns)
+pub answers_spec : {M : Type 1} → statement M
+answers_spec = tie.close (tie.spec with-stage-requires done-requires moved-requires returns)

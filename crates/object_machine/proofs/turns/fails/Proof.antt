@@ -4,7 +4,7 @@ use borrow.Author.Rules.{rules}
 use Rattle.object_machine.proofs.turns.fails.Statement.{statement}
 use Rattle.object_machine.proofs.turns.fails.Tie as tie
 
-with-condition-requires : tie.Need-with-condition-requires
+with-condition-requires : tie.Need-with_condition-requires
 with-condition-requires c κs = search rules
 
 done-requires : tie.Need-done-requires
@@ -15,7 +15,7 @@ moved-requires c κs = search rules
 
 returns : tie.Need-returns
 unfolding fails
-returns c = rw (← c.before.before.with-condition.ensures, ← c.before.done.ensures) c.moved.ensures
+returns c = rw (← c.with_condition.ensures, ← c.done.ensures) c.moved.ensures
 
-pub fails-spec : {M : Type 1} → statement M
-fails-spec = tie.close (tie.spec with-condition-requires done-requires moved-requires returns)
+pub fails_spec : {M : Type 1} → statement M
+fails_spec = tie.close (tie.spec with-condition-requires done-requires moved-requires returns)

@@ -12,7 +12,7 @@ moved-requires c κs = search rules
 
 returns : tie.Need-returns
 unfolding passes
-returns c = rw (← c.before.pass.ensures) c.moved.ensures
+returns c = rw (← c.pass.ensures) c.moved.ensures
 
-pub passes-spec : {M : Type 1} → statement M
-passes-spec = tie.close (tie.spec pass-requires moved-requires returns)
+pub passes_spec : {M : Type 1} → statement M
+passes_spec = tie.close (tie.spec pass-requires moved-requires returns)

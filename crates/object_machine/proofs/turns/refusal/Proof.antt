@@ -8,16 +8,16 @@ use Rattle.object_machine.proofs.turns.refusal.Tie as tie
 done-requires : tie.Need-done-requires
 done-requires c κs = search rules
 
-returns : tie.Need-returns
+returns : tie.Need-returns-then-code-eq65
 unfolding refusal
-returns c = rw (eq-eqb _ 65 c.before.if1.true) c.done.ensures
+returns c = rw (eq-eqb _ 65 c.if-code-eq65.true) c.done.ensures
 
 done-requires-2 : tie.Need-done-requires-2
 done-requires-2 c κs = search rules
 
-returns-2 : tie.Need-returns-2
+returns-2 : tie.Need-returns
 unfolding refusal
-returns-2 c = rw (ne_eqb _ 65 c.before.if1.false) c.done2.ensures
+returns-2 c = rw (ne_eqb _ 65 c.if-code-eq65.false) c.done-2.ensures
 
-pub refusal-spec : {M : Type 1} → statement M
-refusal-spec = tie.close (tie.spec done-requires returns done-requires-2 returns-2)
+pub refusal_spec : {M : Type 1} → statement M
+refusal_spec = tie.close (tie.spec done-requires returns done-requires-2 returns-2)
