@@ -1,6 +1,6 @@
 -- Laws of what a commit keeps of the list of rights. Assumes nothing.
 use mathlib.Core.Path.{◌≡◌, refl, sym, ap, ◌∙◌}
-use mathlib.Core.Bool.{Bool, true, false, cond, not, ◌&&◌}
+use mathlib.Core.Bool.{Bool, true, false}
 use mathlib.Core.List.{List, []}
 use Prim.Native.Nat.{ℕ, ◌+◌, ◌*◌, ◌≤◌, ◌<◌}
 use native.Mathlib.Omega.{arith}
@@ -10,9 +10,8 @@ use lib.ListN.{length}
 use Rattle.model.specs.Bytes.{number, zeros, same}
 use Rattle.model.specs.Layout.{home_count, group_count}
 use Rattle.model.specs.State.{state_of, listed_of, set_list_sign}
-use Rattle.model.specs.declared.State.{State}
 use Rattle.model.specs.Newest.{kept_for, carry_listed}
-use Rattle.model.specs.Effects.{Given, groups, homes}
+use Rattle.model.specs.Effects.{Given}
 use Rattle.model.specs.Rights.{read_list, same_listed, list_moved, sign_for, sign_if, keep_list}
 use Rattle.model_laws.proofs.bytes.LayoutLaws.{groups-in, homes_in}
 use Rattle.model_laws.proofs.state.ListedLaws.{length-carry, state-carry}

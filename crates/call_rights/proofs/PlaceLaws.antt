@@ -1,12 +1,12 @@
 -- Laws of the list's blocks by their places in the log, of the ranges in one, and of zeros word by word. Assumes nothing.
-use mathlib.Core.Path.{◌≡◌, refl, sym, ap, ◌∙◌}
+use mathlib.Core.Path.{◌≡◌, refl, sym, ◌∙◌}
 use mathlib.Core.Bool.{Bool, true, false, cond, ◌&&◌}
 use mathlib.Core.List.{List, []}
-use Prim.Native.Nat.{ℕ, zero, suc, ◌+◌, ◌-◌, ◌*◌, ◌^◌, ◌≤◌, ◌<◌}
+use Prim.Native.Nat.{ℕ, zero, suc, ◌+◌, ◌-◌, ◌*◌, ◌≤◌, ◌<◌}
 use native.Mathlib.Decide.{ℕ_discrete}
 use native.Mathlib.Omega.{arith}
 use borrow.Author.Tests.{eqb-true, eqb-false, eq-eqb, ne_eqb}
-use lib.Bits.{bit_or, bit_and, or_add_and, and_le_l, and_le_r}
+use lib.Bits.{bit_or, or_add_and, and_le_l, and_le_r}
 use lib.Dec.{eqb}
 use lib.ListN.{length}
 use Rattle.model.specs.Bytes.{part, zeros, number, same}
@@ -14,12 +14,12 @@ use Rattle.model.specs.Tag.{displaced}
 use Rattle.model.specs.Layout.{with_top_bit, home_at}
 use Rattle.model.specs.declared.State.{State}
 use Rattle.model.specs.Rights.{in_range, in_ranges}
-use Rattle.model_laws.proofs.bytes.ByteLaws.{number-below, number-part, part-whole}
+use Rattle.model_laws.proofs.bytes.ByteLaws.{number-below, number-part}
 use Rattle.base_codec.proofs.BlockLaws.{word-turn, word-stop, test-end}
 use Rattle.log_shown.specs.There.{Searchable, place_by, shown_with, tag_from, entry_from}
-use Rattle.log_shown.proofs.ThereLaws.{place_none, place-fits, shown-home, shown-at}
+use Rattle.log_shown.proofs.ThereLaws.{place-fits, shown-home, shown-at}
 use Rattle.call_rights.specs.Listed.{block_by, blocks_by, block_from}
-use Rattle.call_rights.proofs.RightsLaws.{none_kept, ranges-part}
+use Rattle.call_rights.proofs.RightsLaws.{ranges-part}
 
 -- ---- words of zeros
 

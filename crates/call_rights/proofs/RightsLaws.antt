@@ -19,7 +19,6 @@ use Rattle.model.specs.Questions.{store_allowed, read_allowed}
 use Rattle.model_laws.proofs.bytes.ByteLaws.{length_part, number-part, part-whole}
 use Rattle.model_laws.proofs.bytes.LayoutLaws.{part-after, part-of-front}
 use Rattle.model_laws.proofs.trace.ReplayLaws.{length-block_at}
-use Rattle.model_laws.proofs.state.OrderLaws.{InOrder}
 use Rattle.call_ask.specs.Lent.{lent, lent_all}
 use Rattle.call_ask.proofs.AnswerLaws.{Usable}
 use Rattle.log_shown.specs.There.{there_by, shown_with, Searchable}

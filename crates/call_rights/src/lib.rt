@@ -1,5 +1,7 @@
 // Who may touch what: the questions 19 and 20, by the list of rights as it is committed. Each asks the list's sign itself, so that no call
 // stands between it and the look at the writer's own block.
+#![tactic(auto)]
+
 mod keep;
 mod list;
 mod ranges;

@@ -6,51 +6,51 @@ use Rattle.call_rights.proofs.RightsLaws.{listed-newest, read-listed, read_small
 use Rattle.call_rights.proofs.may_read.Statement.{statement}
 use Rattle.call_rights.proofs.may_read.Tie as tie
 
-of-list-requires : tie.Need-of-list-requires
+of-list-requires : tie.Need-of_list-requires
 of-list-requires c κs = search rules
 
-returns : tie.Need-returns
-returns c = let p = c.before.before.before.before.before.before.requires in read-listed _ _ _ _ p.0 refl _ _ _ _ c.before.of-list.ensures c.if1.true
+returns : tie.Need-returns-then-of_list
+returns c = let p = c.requires in read-listed _ _ _ _ p.0 refl _ _ _ _ c.of_list.ensures c.if-of_list.true
 
-returns-2 : tie.Need-returns-2
-returns-2 c = let p = c.before.before.before.before.before.before.before.requires in read_small _ _ _ _ p.0 refl _ _ _ _ c.before.before.of-list.ensures c.before.if1.false (omega (arith, c.if2.true))
+returns-2 : tie.Need-returns-then-area-lt768
+returns-2 c = let p = c.requires in read_small _ _ _ _ p.0 refl _ _ _ _ c.of_list.ensures c.if-of_list.false (omega (arith, c.if-area-lt768.true))
 
-mul_at : tie.Need-overflow-mul-at
+mul_at : tie.Need-overflow_mul-at
 mul_at c = search rules
 
-add_at : tie.Need-overflow-add-at
+add_at : tie.Need-overflow_add-at
 add_at c = search rules
 
-list-sign-requires : tie.Need-list-sign-requires
-list-sign-requires c κs = c.before.before.before.before.before.before.before.requires.0.state-length
+list-sign-requires : tie.Need-list_sign-sign-requires
+list-sign-requires c κs = c.requires.0.state-length
 
-returns-3 : tie.Need-returns-3
+returns-3 : tie.Need-returns-then-sign-eq1
 returns-3 c =
-    let p = c.before.before.before.before.before.before.before.before.before.requires in
-    read-open _ _ _ _ p.0 refl _ _ _ _ _ c.before.before.before.before.of-list.ensures c.before.before.before.if1.false
-    (sign-open _ _ _ _ _ (listed-newest _ _ _ _ p.0 refl _ p.2) (omega (arith, p.0.area-length, p.0.order.homes_same, c.before.before.if2.false)) _ _ _
-    (sym c.before.list-sign.ensures ∙ c.if3.true))
+    let p = c.requires in
+    read-open _ _ _ _ p.0 refl _ _ _ _ _ c.of_list.ensures c.if-of_list.false
+    (sign-open _ _ _ _ _ (listed-newest _ _ _ _ p.0 refl _ p.2) (omega (arith, p.0.area-length, p.0.order.homes_same, c.if-area-lt768.false)) _ _ _
+    (sym c.list_sign-sign.ensures ∙ c.if-sign-eq1.true))
 
-open-listed-requires : tie.Need-open-listed-requires
-open-listed-requires c κs = let p = c.before.before.before.before.before.before.before.before.before.before.requires in (listed-newest _ _ _ _ p.0 refl _ p.2, p.0.state-length, omega (arith, p.0.area-length, p.0.order.homes_same, c.before.before.before.if2.false), omega (arith, p.1), omega (arith, p.1))
+open-listed-requires : tie.Need-open_listed-requires
+open-listed-requires c κs = let p = c.requires in (listed-newest _ _ _ _ p.0 refl _ p.2, p.0.state-length, omega (arith, p.0.area-length, p.0.order.homes_same, c.if-area-lt768.false), omega (arith, p.1), omega (arith, p.1))
 
-returns-4 : tie.Need-returns-4
+returns-4 : tie.Need-returns-then-sign-eq2
 returns-4 c =
-    let p = c.before.before.before.before.before.before.before.before.before.before.before.requires in
-    read-open _ _ _ _ p.0 refl _ _ _ _ _ c.before.before.before.before.before.before.of-list.ensures c.before.before.before.before.before.if1.false
-    (sign-listed _ _ _ _ _ (listed-newest _ _ _ _ p.0 refl _ p.2) (omega (arith, p.0.area-length, p.0.order.homes_same, c.before.before.before.before.if2.false)) _ _ _ _
-    (sym c.before.before.before.list-sign.ensures ∙ c.before.if4.true) c.open-listed.ensures)
+    let p = c.requires in
+    read-open _ _ _ _ p.0 refl _ _ _ _ _ c.of_list.ensures c.if-of_list.false
+    (sign-listed _ _ _ _ _ (listed-newest _ _ _ _ p.0 refl _ p.2) (omega (arith, p.0.area-length, p.0.order.homes_same, c.if-area-lt768.false)) _ _ _ _
+    (sym c.list_sign-sign.ensures ∙ c.if-sign-eq2.true) c.open_listed.ensures)
 
-open-unsigned-requires : tie.Need-open-unsigned-requires
+open-unsigned-requires : tie.Need-open_unsigned-requires
 open-unsigned-requires c κs =
-    let p = c.before.before.before.before.before.before.before.before.before.before.requires in
-    (listed-newest _ _ _ _ p.0 refl _ p.2, p.0.state-length, omega (arith, p.0.area-length, p.0.order.homes_same, c.before.before.before.if2.false), omega (arith, p.1), omega (arith, p.1), λ e. c.before.if3.false (c.before.before.list-sign.ensures ∙ e), λ e. c.if4.false (c.before.before.list-sign.ensures ∙ e))
+    let p = c.requires in
+    (listed-newest _ _ _ _ p.0 refl _ p.2, p.0.state-length, omega (arith, p.0.area-length, p.0.order.homes_same, c.if-area-lt768.false), omega (arith, p.1), omega (arith, p.1), λ e. c.if-sign-eq1.false (c.list_sign-sign.ensures ∙ e), λ e. c.if-sign-eq2.false (c.list_sign-sign.ensures ∙ e))
 
-returns-5 : tie.Need-returns-5
-returns-5 c = let p = c.before.before.before.before.before.before.before.before.before.before.before.requires in read-open _ _ _ _ p.0 refl _ _ _ _ _ c.before.before.before.before.before.before.of-list.ensures c.before.before.before.before.before.if1.false c.open-unsigned.ensures
+returns-5 : tie.Need-returns
+returns-5 c = let p = c.requires in read-open _ _ _ _ p.0 refl _ _ _ _ _ c.of_list.ensures c.if-of_list.false c.open_unsigned.ensures
 
-pub may-read-spec : {M : Type 1} → statement M
-may-read-spec =
+pub may_read_spec : {M : Type 1} → statement M
+may_read_spec =
     tie.close
     (tie.spec
     of-list-requires

@@ -4,11 +4,11 @@ use Rattle.call_rights.proofs.RightsLaws.{list-before, list-within}
 use Rattle.call_rights.proofs.ranges.of_list.Statement.{statement}
 use Rattle.call_rights.proofs.ranges.of_list.Tie as tie
 
-returns : tie.Need-returns
-returns c = list-before _ c.if1.taken
+returns : tie.Need-returns-then-home-lt8
+returns c = list-before _ c.if-home-lt8.true
 
-returns-2 : tie.Need-returns-2
-returns-2 c = list-within _ (omega (arith, c.if1.left))
+returns-2 : tie.Need-returns
+returns-2 c = list-within _ (omega (arith, c.if-home-lt8.false))
 
-pub of-list-spec : {M : Type 1} → statement M
-of-list-spec = tie.close (tie.spec returns returns-2)
+pub of_list_spec : {M : Type 1} → statement M
+of_list_spec = tie.close (tie.spec returns returns-2)
