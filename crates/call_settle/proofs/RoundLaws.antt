@@ -7,10 +7,10 @@ use Prim.Native.Nat.{ℕ, zero, suc, ◌+◌, ◌-◌, ◌*◌, ◌≤◌, ◌<�
 use native.Mathlib.Omega.{arith}
 use lib.Dec.{leb, ltb}
 use lib.ListN.{length, get_or, take, length-append}
-use borrow.Author.Tests.{le-leb, lt-leb, leb-true, leb-false, ltb-true, ltb-false}
+use borrow.Author.Tests.{le-leb, lt-leb, ltb-true, ltb-false}
 use Rattle.model.specs.Bytes.{puts}
-use Rattle.model.specs.Layout.{group_count, home_count, entry_at, block_at}
-use Rattle.model.specs.Commit.{transactions, newest, found}
+use Rattle.model.specs.Layout.{group_count, home_count, entry_at}
+use Rattle.model.specs.Commit.{transactions}
 use Rattle.model.specs.Batch.{FN, record_bytes, batch_bytes}
 use Rattle.model.specs.declared.State.{State}
 use Rattle.model.specs.State.{state_of, set_round, set_cursor, under_way, fixed_in}

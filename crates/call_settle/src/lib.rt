@@ -1,4 +1,6 @@
 // Settle, at once or in a round's steps, each call equal to its definition in model/specs/Calls.
+#![tactic(auto)]
+
 mod rounds;
 mod settling;
 
