@@ -1,13 +1,13 @@
 -- Open: its questions, the records after those of the homes, and how the call ends. Assumes nothing.
 use mathlib.Core.Path.{◌≡◌, refl, sym, ap, ◌∙◌}
-use mathlib.Core.Bool.{Bool, true, false, cond, not, ◌&&◌, and-false}
+use mathlib.Core.Bool.{Bool, true, false, cond, ◌&&◌, and-false}
 use mathlib.Core.Logic.{◌≢◌}
-use mathlib.Core.List.{List, [], ◌∷◌, append-nil}
-use Prim.Native.Nat.{ℕ, ◌+◌, ◌-◌, ◌*◌, ◌^◌, ◌≤◌, ◌<◌}
+use mathlib.Core.List.{List, [], append-nil}
+use Prim.Native.Nat.{ℕ, ◌+◌, ◌*◌, ◌^◌, ◌≤◌, ◌<◌}
 use native.Mathlib.Omega.{arith}
 use lib.Dec.{eqb, leb}
 use lib.ListN.{length, length-append}
-use borrow.Author.Tests.{not-true, not-false, le-leb, lt-leb}
+use borrow.Author.Tests.{le-leb, lt-leb}
 use Rattle.model.specs.Bytes.{part, puts, zeros, same}
 use Rattle.model.specs.Layout.{group_count, home_count, log_length_right, data_length_right, header, header_start, header_right, empty_log, entry_at}
 use Rattle.model.specs.Batch.{FN, KW, record_bytes, batch_bytes}
@@ -53,10 +53,10 @@ module _ (log area state newest : List ℕ) where
   abbrev right_lengths : Bool
   right_lengths = log_length_right (length log) && (data_length_right (length area) && eqb (length state) 1024)
 
-  pub lengths : (r : Bool) → r ≡ right_lengths → not r ≡ false → Lengths log area state
+  pub lengths : (r : Bool) → r ≡ right_lengths → r ≡ true → Lengths log area state
   unfolding log_length_right data_length_right
   lengths r e h =
-      let f = simp tests at (sym e ∙ not-false r h) in
+      let f = simp tests at (sym e ∙ h) in
       record {
         log-length = omega arith;
         groups-least = omega arith;
@@ -70,36 +70,36 @@ module _ (log area state newest : List ℕ) where
   unfolding areas_right state_right
   same-lengths = regroup (log_length_right (length log)) (data_length_right (length area)) (eqb (length state) 1024)
 
-  pub open-lengths-no : (r : Bool) → r ≡ right_lengths → not r ≡ true → 1 ≡ ask_open judged 0
+  pub open-lengths-no : (r : Bool) → r ≡ right_lengths → r ≡ false → 1 ≡ ask_open judged 0
   unfolding ask_open
   open-lengths-no r e h =
-      let f : (areas_right judged && state_right judged) ≡ false = sym same-lengths ∙ sym e ∙ not-true r h in
+      let f : (areas_right judged && state_right judged) ≡ false = sym same-lengths ∙ sym e ∙ h in
       sym (ask-no _ 1 _ (rw f))
 
   pub open-newest-no : (n : ℕ) → n ≡ home_count (length area) → length newest ≢ 8 * n → 1 ≡ ask_open judged 0
   unfolding ask_open
   open-newest-no n e h = sym (ask-no _ 1 _ (rw (newest-other judged n e h, and-false)))
 
-  module _ (r b : Bool) (groups homes start : ℕ) (e : r ≡ right_lengths) (h : not r ≡ false)
+  module _ (r b : Bool) (groups homes start : ℕ) (e : r ≡ right_lengths) (h : r ≡ true)
       (q : (groups ≡ group_count (length log)) × (homes ≡ home_count (length area)) × (start ≡ header_start log) × (start < 2 ^ 48))
       (en : length newest ≡ 8 * homes) (eb : b ≡ header_right log groups homes) where
     lengths-yes : (areas_right judged && state_right judged && newest_right judged) ≡ true
     lengths-yes =
-        let f : (areas_right judged && state_right judged) ≡ true = sym same-lengths ∙ sym e ∙ not-false r h in
+        let f : (areas_right judged && state_right judged) ≡ true = sym same-lengths ∙ sym e ∙ h in
         rw (f, newest-length judged homes q.1 en)
 
     same-header : b ≡ header_right log (group_count (length log)) (home_count (length area))
     same-header = eb ∙ rw (q.0, q.1)
 
-    pub open-header-no : not b ≡ true → 3 ≡ ask_open judged 0
+    pub open-header-no : b ≡ false → 3 ≡ ask_open judged 0
     unfolding ask_open header_fits
     open-header-no k =
-        let f : header_right log (group_count (length log)) (home_count (length area)) ≡ false = sym same-header ∙ not-true b k in
+        let f : header_right log (group_count (length log)) (home_count (length area)) ≡ false = sym same-header ∙ k in
         sym (ask-yes _ 1 _ lengths-yes ∙ ask-no _ 3 _ (rw f))
 
-    module _ (k : not b ≡ false) where
+    module _ (k : b ≡ true) where
       header-yes : header_right log (group_count (length log)) (home_count (length area)) ≡ true
-      header-yes = sym same-header ∙ not-false b k
+      header-yes = sym same-header ∙ k
 
       pub open-start-no : 2 ^ 47 < start → 3 ≡ ask_open judged 0
       unfolding ask_open header_fits

@@ -1,114 +1,93 @@
 -- `call_open::format_answer` meets its contract: each test is a question. Assumes nothing.
-use mathlib.Core.Path.{sym}
+use mathlib.Core.Path.{sym, ◌∙◌}
 use native.Mathlib.Omega.{arith}
-use Rattle.base_order.proofs.OrderTests.{answered-no, answered-yes}
 use Rattle.call_open.proofs.FormatLaws.{format-log-wrong, format-area-wrong, format-batch-short, format-allowed, groups-most, homes-most}
 use borrow.Author.Rules.{rules}
 use Rattle.call_open.proofs.formatting.format_answer.Statement.{statement}
 use Rattle.call_open.proofs.formatting.format_answer.Tie as tie
 
-log-right-requires : tie.Need-log-right-requires
+log-right-requires : tie.Need-log_right-requires
 log-right-requires c κs = search rules
 
-returns : tie.Need-returns
-returns c = format-log-wrong _ _ _ (sym (answered-no c.before.log-right.ensures c.if1.true))
+returns : tie.Need-returns-then-not-log_right
+returns c = format-log-wrong _ _ _ (sym c.log_right.ensures ∙ c.if-not-log_right.true)
 
-data-right-requires : tie.Need-data-right-requires
+data-right-requires : tie.Need-data_right-requires
 data-right-requires c κs = search rules
 
-returns-2 : tie.Need-returns-2
-returns-2 c = format-area-wrong _ _ _ (sym (answered-no c.before.data-right.ensures c.if2.true))
+returns-2 : tie.Need-returns-then-not-data_right
+returns-2 c = format-area-wrong _ _ _ (sym c.data_right.ensures ∙ c.if-not-data_right.true)
 
-log-groups-requires : tie.Need-log-groups-requires
+log-groups-requires : tie.Need-log_groups-groups-requires
 log-groups-requires c κs = search rules
 
-data-homes-requires : tie.Need-data-homes-requires
+data-homes-requires : tie.Need-data_homes-homes-requires
 data-homes-requires c κs = search rules
 
-mul-if3 : tie.Need-overflow-mul-if3
+mul-if3 : tie.Need-overflow_mul-groups
 mul-if3 c =
-    let c1 = c.before.before.before.before in
-    let c2 = c1.before in
     omega (
       arith,
-      groups-most _ (sym (answered-yes c2.log-right.ensures c1.if1.false)),
-      homes-most _ (sym (answered-yes c.before.before.before.data-right.ensures
-          c.before.before.if2.false)),
-      c.before.log-groups.ensures,
-      c.data-homes.ensures,
+      groups-most _ (sym c.log_right.ensures ∙ c.if-not-log_right.false),
+      homes-most _ (sym c.data_right.ensures ∙ c.if-not-data_right.false),
+      c.log_groups-groups.ensures,
+      c.data_homes-homes.ensures,
     )
 
-add-if3 : tie.Need-overflow-add-if3
+add-if3 : tie.Need-overflow_add-groups
 add-if3 c =
-    let c1 = c.before.before.before.before in
-    let c2 = c1.before in
     omega (
       arith,
-      groups-most _ (sym (answered-yes c2.log-right.ensures c1.if1.false)),
-      homes-most _ (sym (answered-yes c.before.before.before.data-right.ensures
-          c.before.before.if2.false)),
-      c.before.log-groups.ensures,
-      c.data-homes.ensures,
+      groups-most _ (sym c.log_right.ensures ∙ c.if-not-log_right.false),
+      homes-most _ (sym c.data_right.ensures ∙ c.if-not-data_right.false),
+      c.log_groups-groups.ensures,
+      c.data_homes-homes.ensures,
     )
 
-mul-if3-2 : tie.Need-overflow-mul-if3-2
+mul-if3-2 : tie.Need-overflow_mul-homes
 mul-if3-2 c =
-    let c1 = c.before.before.before.before in
-    let c2 = c1.before in
     omega (
       arith,
-      groups-most _ (sym (answered-yes c2.log-right.ensures c1.if1.false)),
-      homes-most _ (sym (answered-yes c.before.before.before.data-right.ensures
-          c.before.before.if2.false)),
-      c.before.log-groups.ensures,
-      c.data-homes.ensures,
+      groups-most _ (sym c.log_right.ensures ∙ c.if-not-log_right.false),
+      homes-most _ (sym c.data_right.ensures ∙ c.if-not-data_right.false),
+      c.log_groups-groups.ensures,
+      c.data_homes-homes.ensures,
     )
 
-add-if3-2 : tie.Need-overflow-add-if3-2
+add-if3-2 : tie.Need-overflow_add-groups-2
 add-if3-2 c =
-    let c1 = c.before.before.before.before in
-    let c2 = c1.before in
     omega (
       arith,
-      groups-most _ (sym (answered-yes c2.log-right.ensures c1.if1.false)),
-      homes-most _ (sym (answered-yes c.before.before.before.data-right.ensures
-          c.before.before.if2.false)),
-      c.before.log-groups.ensures,
-      c.data-homes.ensures,
+      groups-most _ (sym c.log_right.ensures ∙ c.if-not-log_right.false),
+      homes-most _ (sym c.data_right.ensures ∙ c.if-not-data_right.false),
+      c.log_groups-groups.ensures,
+      c.data_homes-homes.ensures,
     )
 
-returns-3 : tie.Need-returns-3
+returns-3 : tie.Need-returns-then-batch-groups
 returns-3 c =
-    let c1 = c.before.before.before.before in
-    let c2 = c1.before in
-    let c3 = c2.before in
-    format-batch-short _ _ _ (sym (answered-yes c3.log-right.ensures c2.if1.false)) (sym (answered-yes c1.data-right.ensures c.before.before.before.if2.false))
+    format-batch-short _ _ _ (sym c.log_right.ensures ∙ c.if-not-log_right.false) (sym c.data_right.ensures ∙ c.if-not-data_right.false)
     (omega (
       arith,
-      groups-most _ (sym (answered-yes c3.log-right.ensures c2.if1.false)),
-      homes-most _ (sym (answered-yes c1.data-right.ensures
-          c.before.before.before.if2.false)),
-      c.before.before.log-groups.ensures,
-      c.before.data-homes.ensures,
+      groups-most _ (sym c.log_right.ensures ∙ c.if-not-log_right.false),
+      homes-most _ (sym c.data_right.ensures ∙ c.if-not-data_right.false),
+      c.log_groups-groups.ensures,
+      c.data_homes-homes.ensures,
     ))
 
-returns-4 : tie.Need-returns-4
+returns-4 : tie.Need-returns
 returns-4 c =
-    let c1 = c.before.before.before.before in
-    let c2 = c1.before in
-    let c3 = c2.before in
-    format-allowed _ _ _ (sym (answered-yes c3.log-right.ensures c2.if1.false)) (sym (answered-yes c1.data-right.ensures c.before.before.before.if2.false))
+    format-allowed _ _ _ (sym c.log_right.ensures ∙ c.if-not-log_right.false) (sym c.data_right.ensures ∙ c.if-not-data_right.false)
     (omega (
       arith,
-      groups-most _ (sym (answered-yes c3.log-right.ensures c2.if1.false)),
-      homes-most _ (sym (answered-yes c1.data-right.ensures
-          c.before.before.before.if2.false)),
-      c.before.before.log-groups.ensures,
-      c.before.data-homes.ensures,
+      groups-most _ (sym c.log_right.ensures ∙ c.if-not-log_right.false),
+      homes-most _ (sym c.data_right.ensures ∙ c.if-not-data_right.false),
+      c.log_groups-groups.ensures,
+      c.data_homes-homes.ensures,
     ))
 
-pub format-answer-spec : {M : Type 1} → statement M
-format-answer-spec =
+pub format_answer_spec : {M : Type 1} → statement M
+format_answer_spec =
     tie.close
     (tie.spec
     log-right-requires

@@ -8,11 +8,11 @@ use Rattle.call_open.proofs.formatting.format_area.Tie as tie
 clear-requires : tie.Need-clear-requires
 clear-requires c κs = search rules
 
-same_length : tie.Need-same-length
+same_length : tie.Need-shape_of-area
 same_length c = search rules
 
 returns : tie.Need-returns
-returns c = c.before.before.clear.ensures ∙ area-formatted _
+returns c = c.clear.ensures ∙ area-formatted _
 
-pub format-area-spec : {M : Type 1} → statement M
-format-area-spec = tie.close (tie.spec clear-requires same_length returns)
+pub format_area_spec : {M : Type 1} → statement M
+format_area_spec = tie.close (tie.spec clear-requires same_length returns)
