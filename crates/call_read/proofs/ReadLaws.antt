@@ -1,13 +1,13 @@
 -- Laws for read: the entry that a writer sees, found layer by layer, and the block that is shown. Assumes nothing.
 use mathlib.Core.Path.{◌≡◌, refl, sym, ap, ◌∙◌}
-use mathlib.Core.Bool.{Bool, true, false, cond, not}
+use mathlib.Core.Bool.{Bool, true, false, cond}
 use mathlib.Core.List.{List}
 use mathlib.Core.Option.{Option, none, some}
 use Prim.Native.Nat.{ℕ, ◌+◌, ◌-◌, ◌*◌, ◌/◌, ◌%◌, ◌^◌, ◌≤◌, ◌<◌}
 use native.Mathlib.Omega.{arith}
 use lib.Dec.{ltb, eqb}
 use lib.ListN.{length}
-use borrow.Author.Tests.{not-true, not-false, ltb-true, lt-ltb, le-ltb, leb-true}
+use borrow.Author.Tests.{ltb-true, lt-ltb, le-ltb, leb-true}
 use Rattle.model.specs.Bytes.{part, puts}
 use Rattle.model.specs.Layout.{block_at, home_count, home_at}
 use Rattle.model.specs.Commit.{members, newest_in, or_else}
@@ -193,21 +193,21 @@ module _ (g : Given) where
       sym (both-passes g _ e ∙ ask-yes (ltb g.writer 8) 4 _ (lt-ltb g.writer 8 w) ∙ ask-no (ltb g.home (homes g)) 5 _ (le-ltb g.home (homes g) h))
 
   module _ (e : ask_both g 0 ≡ 0) (w : g.writer < 8) (h : g.home < homes g) (b : Bool) (q : b ≡ read_allowed g) where
-    pub right-refused : not b ≡ true → 20 ≡ read_answer g
+    pub right-refused : b ≡ false → 20 ≡ read_answer g
     unfolding read_answer writer_known is_home_known
     right-refused n =
         sym
         (both-passes g _ e ∙ ask-yes (ltb g.writer 8) 4 _ (lt-ltb g.writer 8 w)
         ∙ ask-yes (ltb g.home (homes g)) 5 _ (lt-ltb g.home (homes g) h)
-        ∙ ask-no (read_allowed g) 20 0 (sym q ∙ not-true b n))
+        ∙ ask-no (read_allowed g) 20 0 (sym q ∙ n))
 
-    pub none-refused : not b ≡ false → 0 ≡ read_answer g
+    pub none-refused : b ≡ true → 0 ≡ read_answer g
     unfolding read_answer writer_known is_home_known
     none-refused n =
         sym
         (both-passes g _ e ∙ ask-yes (ltb g.writer 8) 4 _ (lt-ltb g.writer 8 w)
         ∙ ask-yes (ltb g.home (homes g)) 5 _ (lt-ltb g.home (homes g) h)
-        ∙ ask-yes (read_allowed g) 20 0 (sym q ∙ not-false b n))
+        ∙ ask-yes (read_allowed g) 20 0 (sym q ∙ n))
 
   -- what a read that none refuses is lent
   pub ready : read_answer g ≡ 0 → Usable g.log g.area g.state × (length g.block ≡ 64) × (length g.newest ≡ 8 * homes g) × (g.writer < 8) × (g.home < homes g)

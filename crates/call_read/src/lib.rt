@@ -1,4 +1,6 @@
 // The call read: the newest value of a home that a writer sees.
+#![tactic(auto)]
+
 mod blocks;
 mod newest;
 

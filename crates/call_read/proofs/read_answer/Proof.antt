@@ -8,32 +8,32 @@ use native.Mathlib.Omega.{arith}
 use Rattle.call_read.proofs.read_answer.Statement.{statement}
 use Rattle.call_read.proofs.read_answer.Tie as tie
 
-both-answer-requires : tie.Need-both-answer-requires
+both-answer-requires : tie.Need-both_answer-code-requires
 both-answer-requires c κs = search rules
 
-returns : tie.Need-returns
-returns c = first-refuse _ _ (c.before.both-answer.ensures ∙ sym (both-only _ _ _ _ _ _ _ _ _)) c.if1.true
+returns : tie.Need-returns-then-code-ne0
+returns c = first-refuse _ _ (c.both_answer-code.ensures ∙ sym (both-only _ _ _ _ _ _ _ _ _)) c.if-code-ne0.true
 
-returns-2 : tie.Need-returns-2
-returns-2 c = writer-refused _ (both-only _ _ _ _ _ _ _ _ _ ∙ sym c.before.before.both-answer.ensures ∙ c.before.if1.false) (omega arith)
+returns-2 : tie.Need-returns-then-writer-ge8
+returns-2 c = writer-refused _ (both-only _ _ _ _ _ _ _ _ _ ∙ sym c.both_answer-code.ensures ∙ c.if-code-ne0.false) (omega arith)
 
-data-homes-requires : tie.Need-data-homes-requires
+data-homes-requires : tie.Need-data_homes-requires
 data-homes-requires c κs = search rules
 
-returns-3 : tie.Need-returns-3
-returns-3 c = home-refused _ (both-only _ _ _ _ _ _ _ _ _ ∙ sym c.before.before.before.before.both-answer.ensures ∙ c.before.before.before.if1.false) (omega arith) (omega arith)
+returns-3 : tie.Need-returns-then-home-data_homes
+returns-3 c = home-refused _ (both-only _ _ _ _ _ _ _ _ _ ∙ sym c.both_answer-code.ensures ∙ c.if-code-ne0.false) (omega arith) (omega arith)
 
-may-read-requires : tie.Need-may-read-requires
-may-read-requires c κs = let u = both-usable _ (sym c.before.before.before.before.both-answer.ensures ∙ c.before.before.before.if1.false) in (u.0, omega arith, u.2)
+may-read-requires : tie.Need-may_read-requires
+may-read-requires c κs = let u = both-usable _ (sym c.both_answer-code.ensures ∙ c.if-code-ne0.false) in (u.0, omega arith, u.2)
 
-returns-4 : tie.Need-returns-4
-returns-4 c = right-refused _ (both-only _ _ _ _ _ _ _ _ _ ∙ sym c.before.before.before.before.before.before.both-answer.ensures ∙ c.before.before.before.before.before.if1.false) (omega arith) (omega arith) _ (c.before.may_read.ensures ∙ sym (read_only _ _ _ _ _ _ _ _)) c.if4.true
+returns-4 : tie.Need-returns-then-not-may_read
+returns-4 c = right-refused _ (both-only _ _ _ _ _ _ _ _ _ ∙ sym c.both_answer-code.ensures ∙ c.if-code-ne0.false) (omega arith) (omega arith) _ (c.may_read.ensures ∙ sym (read_only _ _ _ _ _ _ _ _)) c.if-not-may_read.true
 
-returns-5 : tie.Need-returns-5
-returns-5 c = none-refused _ (both-only _ _ _ _ _ _ _ _ _ ∙ sym c.before.before.before.before.before.before.both-answer.ensures ∙ c.before.before.before.before.before.if1.false) (omega arith) (omega arith) _ (c.before.may_read.ensures ∙ sym (read_only _ _ _ _ _ _ _ _)) c.if4.false
+returns-5 : tie.Need-returns
+returns-5 c = none-refused _ (both-only _ _ _ _ _ _ _ _ _ ∙ sym c.both_answer-code.ensures ∙ c.if-code-ne0.false) (omega arith) (omega arith) _ (c.may_read.ensures ∙ sym (read_only _ _ _ _ _ _ _ _)) c.if-not-may_read.false
 
-pub read-answer-spec : {M : Type 1} → statement M
-read-answer-spec =
+pub read_answer_spec : {M : Type 1} → statement M
+read_answer_spec =
     tie.close
     (tie.spec
     both-answer-requires

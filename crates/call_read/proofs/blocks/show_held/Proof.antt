@@ -5,25 +5,25 @@ use Rattle.call_read.proofs.ReadLaws.{held-copied}
 use Rattle.call_read.proofs.blocks.show_held.Statement.{statement}
 use Rattle.call_read.proofs.blocks.show_held.Tie as tie
 
-mul-copy-block : tie.Need-overflow-mul-copy-block
+mul-copy-block : tie.Need-overflow_mul-w
 mul-copy-block c = search rules
 
-add-copy-block : tie.Need-overflow-add-copy-block
+add-copy-block : tie.Need-overflow_add-w
 add-copy-block c = search rules
 
-copy-block-requires : tie.Need-copy-block-requires
+copy-block-requires : tie.Need-copy_block-requires
 copy-block-requires c κs = search rules
 
-same_length : tie.Need-same-length
+same_length : tie.Need-shape_of-block
 same_length c = search rules
 
 returns : tie.Need-returns
 returns c =
-    let p = c.before.before.before.before.before.before.requires in
-    c.before.before.copy-block.ensures ∙ held-copied _ _ _ p.0 p.1 p.2
+    let p = c.requires in
+    c.copy_block.ensures ∙ held-copied _ _ _ p.0 p.1 p.2
 
-pub show-held-spec : {M : Type 1} → statement M
-show-held-spec =
+pub show_held_spec : {M : Type 1} → statement M
+show_held_spec =
     tie.close
     (tie.spec
     mul-copy-block
