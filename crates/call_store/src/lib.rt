@@ -1,4 +1,6 @@
 // The call store, which fills the log, and the entry that commit logs too.
+#![tactic(auto)]
+
 mod entry;
 mod stores;
 

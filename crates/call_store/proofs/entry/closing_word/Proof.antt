@@ -10,38 +10,37 @@ use borrow.Author.Rules.{rules}
 use Rattle.call_store.proofs.entry.closing_word.Statement.{statement}
 use Rattle.call_store.proofs.entry.closing_word.Tie as tie
 
-first-for-requires : tie.Need-first-for-requires
+first-for-requires : tie.Need-first_for-requires
 first-for-requires c κs = search rules
 
-sub_back : tie.Need-overflow-sub-back
+sub_back : tie.Need-overflow_sub-back
 sub_back c = search rules
 
-link-from-requires : tie.Need-link-from-requires
+link-from-requires : tie.Need-link_from-link-requires
 link-from-requires c κs = search rules
 
-count-for-requires : tie.Need-count-for-requires
+count-for-requires : tie.Need-count_for-requires
 count-for-requires c κs = search rules
 
-add-commit-word : tie.Need-overflow-add-commit-word
+add-commit-word : tie.Need-overflow_add-count_for
 add-commit-word c = search rules
 
-commit-word-requires : tie.Need-commit-word-requires
+commit-word-requires : tie.Need-commit_word-requires
 commit-word-requires c κs = search rules
 
 returns : tie.Need-returns
 returns c =
-    let f = c.before.before.before in
-    let a = f.before.args in
-    let p = f.before.requires in
-    let e : c.commit-word.result
+    let a = c.args in
+    let p = c.requires in
+    let e : c.commit_word.result
     ≡ closing_word a.r.home (a.position - first_for a.r a.position) (link_from a.position a.st) (count_for a.r + 1) = cc in (
       e,
       rw e (closing-fits a.r.home (a.position - first_for a.r a.position) (link_from a.position a.st) (count_for a.r + 1) p.home
           (omega (arith, p.near)) p.link p.many),
     )
 
-pub closing-word-spec : {M : Type 1} → statement M
-closing-word-spec =
+pub closing_word_spec : {M : Type 1} → statement M
+closing_word_spec =
     tie.close
     (tie.spec
     first-for-requires

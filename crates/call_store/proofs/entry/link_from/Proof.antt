@@ -5,20 +5,20 @@ use borrow.Author.Rules.{rules}
 use Rattle.call_store.proofs.entry.link_from.Statement.{statement}
 use Rattle.call_store.proofs.entry.link_from.Tie as tie
 
-mul-if1 : tie.Need-overflow-mul-if1
+mul-if1 : tie.Need-overflow_mul-st
 mul-if1 c = search rules
 
-returns : tie.Need-returns
-returns c = link-none _ _ (omega (arith, c.if1.true))
+returns : tie.Need-returns-then-st
+returns c = link-none _ _ (omega (arith, c.if-st.true))
 
-add-result : tie.Need-overflow-add-result
+add-result : tie.Need-overflow_add-result
 add-result c = search rules
 
-sub-result : tie.Need-overflow-sub-result
+sub-result : tie.Need-overflow_sub-result
 sub-result c = search rules
 
-returns-2 : tie.Need-returns-2
-returns-2 c = link-some _ _ (omega (arith, c.before.if1.false))
+returns-2 : tie.Need-returns
+returns-2 c = link-some _ _ (omega (arith, c.if-st.false))
 
-pub link-from-spec : {M : Type 1} → statement M
-link-from-spec = tie.close (tie.spec mul-if1 returns add-result sub-result returns-2)
+pub link_from_spec : {M : Type 1} → statement M
+link_from_spec = tie.close (tie.spec mul-if1 returns add-result sub-result returns-2)

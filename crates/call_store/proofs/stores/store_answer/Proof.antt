@@ -1,5 +1,6 @@
 -- `call_store::store_answer` meets its contract. Assumes nothing.
-use mathlib.Core.Path.{refl}
+use mathlib.Core.Bool.{not}
+use mathlib.Core.Path.{refl, ap}
 use borrow.Author.Rules.{rules}
 use Rattle.call_store.proofs.StoreLaws.{refuses, lent-use, writer-no, home-no, right-no, open_no, first-yes, again-yes, other-asks}
 use Rattle.call_ask.proofs.AnswerLaws.{usable-groups}
@@ -7,53 +8,53 @@ use native.Mathlib.Omega.{arith}
 use Rattle.call_store.proofs.stores.store_answer.Statement.{statement}
 use Rattle.call_store.proofs.stores.store_answer.Tie as tie
 
-block-answer-requires : tie.Need-block-answer-requires
+block-answer-requires : tie.Need-block_answer-asked-requires
 block-answer-requires c κs = search rules
 
-returns : tie.Need-returns
-returns c = refuses _ _ _ _ _ _ _ _ c.before.block-answer.ensures c.if1.true
+returns : tie.Need-returns-then-asked-ne0
+returns c = refuses _ _ _ _ _ _ _ _ c.block_answer-asked.ensures c.if-asked-ne0.true
 
-returns-2 : tie.Need-returns-2
-returns-2 c = let a = c.before.before.before.before.before.before.before.before.args in writer-no _ _ _ _ _ a.writer a.home _ c.before.before.block-answer.ensures c.before.if1.false (omega arith)
+returns-2 : tie.Need-returns-then-writer-ge8
+returns-2 c = let a = c.args in writer-no _ _ _ _ _ a.writer a.home _ c.block_answer-asked.ensures c.if-asked-ne0.false (omega arith)
 
-data-homes-requires : tie.Need-data-homes-requires
+data-homes-requires : tie.Need-data_homes-requires
 data-homes-requires c κs = search rules
 
-returns-3 : tie.Need-returns-3
-returns-3 c = let a = c.before.before.before.before.before.before.before.before.before.before.args in home-no _ _ _ _ _ a.writer a.home _ c.before.before.before.before.block-answer.ensures c.before.before.before.if1.false _ (omega arith) c.before.data-homes.ensures (omega arith)
+returns-3 : tie.Need-returns-then-home-data_homes
+returns-3 c = let a = c.args in home-no _ _ _ _ _ a.writer a.home _ c.block_answer-asked.ensures c.if-asked-ne0.false _ (omega arith) c.data_homes.ensures (omega arith)
 
-may-store-requires : tie.Need-may-store-requires
-may-store-requires c κs = let a = c.before.before.before.before.before.before.before.before.before.before.args in let u = lent-use a.log.now a.area.now a.state.now a.block.now a.batch.now a.writer a.home _ c.before.before.before.before.block-answer.ensures c.before.before.before.if1.false in (u, omega arith)
+may-store-requires : tie.Need-may_store-requires
+may-store-requires c κs = let a = c.args in let u = lent-use a.log.now a.area.now a.state.now a.block.now a.batch.now a.writer a.home _ c.block_answer-asked.ensures c.if-asked-ne0.false in (u, omega arith)
 
-returns-4 : tie.Need-returns-4
-returns-4 c = let a = c.before.before.before.before.before.before.before.before.before.before.before.before.args in right-no _ _ _ _ _ a.writer a.home _ c.before.before.before.before.before.before.block-answer.ensures c.before.before.before.before.before.if1.false _ _ (omega arith) c.before.before.before.data-homes.ensures (omega arith) c.before.may-store.ensures c.if4.true
+returns-4 : tie.Need-returns-then-not-may_store
+returns-4 c = let a = c.args in right-no _ _ _ _ _ a.writer a.home _ c.block_answer-asked.ensures c.if-asked-ne0.false _ _ (omega arith) c.data_homes.ensures (omega arith) c.may_store.ensures (ap not c.if-not-may_store.true)
 
-writer-requires : tie.Need-writer-requires
-writer-requires c κs = let a = c.before.before.before.before.before.before.before.before.before.before.before.before.args in let u = lent-use a.log.now a.area.now a.state.now a.block.now a.batch.now a.writer a.home _ c.before.before.before.before.before.before.block-answer.ensures c.before.before.before.before.before.if1.false in (u.state-length, omega arith)
+writer-requires : tie.Need-writer-r-requires
+writer-requires c κs = let a = c.args in let u = lent-use a.log.now a.area.now a.state.now a.block.now a.batch.now a.writer a.home _ c.block_answer-asked.ensures c.if-asked-ne0.false in (u.state-length, omega arith)
 
-is-open-requires : tie.Need-is-open-requires
+is-open-requires : tie.Need-is_open-requires
 is-open-requires c κs = search rules
 
-returns-5 : tie.Need-returns-5
-returns-5 c = let a = c.before.before.before.before.before.before.before.before.before.before.before.before.before.before.before.args in open_no _ _ _ _ _ a.writer a.home _ c.before.before.before.before.before.before.before.before.before.block-answer.ensures c.before.before.before.before.before.before.before.before.if1.false _ _ _ _ (omega arith) c.before.before.before.before.before.before.data-homes.ensures (omega arith) c.before.before.before.before.may-store.ensures c.before.before.before.if4.false c.before.before.writer.ensures c.before.is_open.ensures c.if5.true
+returns-5 : tie.Need-returns-then-not-is_open
+returns-5 c = let a = c.args in open_no _ _ _ _ _ a.writer a.home _ c.block_answer-asked.ensures c.if-asked-ne0.false _ _ _ _ (omega arith) c.data_homes.ensures (omega arith) c.may_store.ensures (ap not c.if-not-may_store.false) c.writer-r.ensures c.is_open.ensures (ap not c.if-not-is_open.true)
 
 holds-requires : tie.Need-holds-requires
 holds-requires c κs = search rules
 
-returns-6 : tie.Need-returns-6
-returns-6 c = let a = c.before.before.before.before.before.before.before.before.before.before.before.before.before.before.before.before.before.args in first-yes _ _ _ _ _ a.writer a.home _ c.before.before.before.before.before.before.before.before.before.before.before.block-answer.ensures c.before.before.before.before.before.before.before.before.before.before.if1.false _ _ _ _ (omega arith) c.before.before.before.before.before.before.before.before.data-homes.ensures (omega arith) c.before.before.before.before.before.before.may-store.ensures c.before.before.before.before.before.if4.false c.before.before.before.before.writer.ensures c.before.before.before.is_open.ensures _ c.before.before.if5.false c.before.holds.ensures c.if6.true
+returns-6 : tie.Need-returns-then-not-holds
+returns-6 c = let a = c.args in first-yes _ _ _ _ _ a.writer a.home _ c.block_answer-asked.ensures c.if-asked-ne0.false _ _ _ _ (omega arith) c.data_homes.ensures (omega arith) c.may_store.ensures (ap not c.if-not-may_store.false) c.writer-r.ensures c.is_open.ensures _ (ap not c.if-not-is_open.false) c.holds.ensures (ap not c.if-not-holds.true)
 
-returns-7 : tie.Need-returns-7
-returns-7 c = let a = c.before.before.before.before.before.before.before.before.before.before.before.before.before.before.before.before.before.before.before.args in again-yes _ _ _ _ _ a.writer a.home _ c.before.before.before.before.before.before.before.before.before.before.before.before.before.block-answer.ensures c.before.before.before.before.before.before.before.before.before.before.before.before.if1.false _ _ _ _ (omega arith) c.before.before.before.before.before.before.before.before.before.before.data-homes.ensures (omega arith) c.before.before.before.before.before.before.before.before.may-store.ensures c.before.before.before.before.before.before.before.if4.false c.before.before.before.before.before.before.writer.ensures c.before.before.before.before.before.is_open.ensures _ c.before.before.before.before.if5.false c.before.before.before.holds.ensures c.before.before.if6.false c.if7.true
+returns-7 : tie.Need-returns-then-r-home
+returns-7 c = let a = c.args in again-yes _ _ _ _ _ a.writer a.home _ c.block_answer-asked.ensures c.if-asked-ne0.false _ _ _ _ (omega arith) c.data_homes.ensures (omega arith) c.may_store.ensures (ap not c.if-not-may_store.false) c.writer-r.ensures c.is_open.ensures _ (ap not c.if-not-is_open.false) c.holds.ensures (ap not c.if-not-holds.false) c.if-r-home.true
 
-log-answer-requires : tie.Need-log-answer-requires
-log-answer-requires c κs = let a = c.before.before.before.before.before.before.before.before.before.before.before.before.before.before.before.before.before.before.before.args in let u = lent-use a.log.now a.area.now a.state.now a.block.now a.batch.now a.writer a.home _ c.before.before.before.before.before.before.before.before.before.before.before.before.before.block-answer.ensures c.before.before.before.before.before.before.before.before.before.before.before.before.if1.false in (u.state-length, omega (arith, c.before.before.before.before.before.before.before.before.before.before.before.if2.false), usable-groups _ _ _ _ u refl)
+log-answer-requires : tie.Need-log_answer-requires
+log-answer-requires c κs = let a = c.args in let u = lent-use a.log.now a.area.now a.state.now a.block.now a.batch.now a.writer a.home _ c.block_answer-asked.ensures c.if-asked-ne0.false in (u.state-length, omega (arith, c.if-writer-ge8.false), usable-groups _ _ _ _ u refl)
 
-returns-8 : tie.Need-returns-8
-returns-8 c = let a = c.before.before.before.before.before.before.before.before.before.before.before.before.before.before.before.before.before.before.before.before.args in other-asks _ _ _ _ _ a.writer a.home _ c.before.before.before.before.before.before.before.before.before.before.before.before.before.before.block-answer.ensures c.before.before.before.before.before.before.before.before.before.before.before.before.before.if1.false _ _ _ _ (omega arith) c.before.before.before.before.before.before.before.before.before.before.before.data-homes.ensures (omega arith) c.before.before.before.before.before.before.before.before.before.may-store.ensures c.before.before.before.before.before.before.before.before.if4.false c.before.before.before.before.before.before.before.writer.ensures c.before.before.before.before.before.before.is_open.ensures _ _ _ c.before.before.before.before.before.if5.false c.before.before.before.before.holds.ensures c.before.before.before.if6.false c.before.if7.false refl c.log-answer.ensures
+returns-8 : tie.Need-returns
+returns-8 c = let a = c.args in other-asks _ _ _ _ _ a.writer a.home _ c.block_answer-asked.ensures c.if-asked-ne0.false _ _ _ _ (omega arith) c.data_homes.ensures (omega arith) c.may_store.ensures (ap not c.if-not-may_store.false) c.writer-r.ensures c.is_open.ensures _ _ _ (ap not c.if-not-is_open.false) c.holds.ensures (ap not c.if-not-holds.false) c.if-r-home.false refl c.log_answer.ensures
 
-pub store-answer-spec : {M : Type 1} → statement M
-store-answer-spec =
+pub store_answer_spec : {M : Type 1} → statement M
+store_answer_spec =
     tie.close
     (tie.spec
     block-answer-requires
