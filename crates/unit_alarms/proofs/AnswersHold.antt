@@ -1,7 +1,7 @@
 -- What the calls on alarms answer in every history. Assumes nothing.
 use Prim.Native.Nat.{ℕ, zero, suc, ◌+◌, ◌*◌, ◌≤◌, ◌<◌}
-use mathlib.Core.Path.{◌≡◌, refl, sym, ap, ◌∙◌}
-use mathlib.Core.Bool.{Bool, true, false, cond, ◌&&◌}
+use mathlib.Core.Path.{◌≡◌, refl, ap, ◌∙◌}
+use mathlib.Core.Bool.{Bool, true, false, ◌&&◌}
 use mathlib.Core.Logic.{inl, inr, ◌≢◌}
 use mathlib.Core.List.{List, []}
 use native.Mathlib.Decide.{dec_lt}
@@ -12,14 +12,14 @@ use lib.ListN.{length}
 use Rattle.model.specs.Bytes.{zeros}
 use Rattle.model.proofs.examples.Computing.{all-definitions}
 use Rattle.model.specs.History.{World, Formatting, after_format}
-use Rattle.abstract_store.specs.Store.{Store, told}
+use Rattle.abstract_store.specs.Store.{Store}
 use Rattle.unit_events.specs.Homes.{alarm_home, alarm_homes}
 use Rattle.unit_events.specs.Offered.{held_after}
 use Rattle.unit_events.specs.Folded.{Step, noted, ran, notes, AllStepsAllowed, SparedBySteps}
 use Rattle.unit_events.proofs.FoldedHolds.{events-folded}
 use Rattle.unit_shared.specs.Unit.{Lent, untouched, fetched, revised, transacted}
 use Rattle.unit_shared.specs.Moments.{lent_in}
-use Rattle.unit_shared.specs.Replies.{ask_read, reply_event, told_by, Answered, store_next_to}
+use Rattle.unit_shared.specs.Replies.{ask_read, told_by, Answered, store_next_to}
 use Rattle.unit_shared.proofs.MomentShown.{shown-there, first-there, kept_there}
 use Rattle.unit_shared.proofs.RepliesHold.{EventEnds, fetched-code, event-told, told-refused, few-unread, few-unfetched, answered-there}
 use Rattle.unit_alarms_list.specs.declared.Alarm.{Alarm}

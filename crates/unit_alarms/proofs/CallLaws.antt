@@ -15,7 +15,7 @@ use Rattle.unit_alarms_list.specs.Alarm.{class_known}
 use Rattle.unit_alarms_list.specs.declared.Alarm.{Alarm}
 use Rattle.unit_alarms_list.specs.OpenAlarms.{kept_for_home}
 use Rattle.unit_alarms_list.specs.Events.{Event, arrival, clearing, applied, leaves as output_left}
-use Rattle.unit_alarms.specs.Calls.{judge, arrive_call, clear_call, GravestReply, tells, alarm_tells, gravest_in, gravest_call}
+use Rattle.unit_alarms.specs.Calls.{judge, arrive_call, clear_call, tells, alarm_tells, gravest_in, gravest_call}
 
 -- what the blocks answer an event, and the new blocks in a buffer of zeros
 pub judging : (e : Event) (blocks given : List ℕ) {answer : ℕ} {next : List ℕ} → given ≡ zeros 384 → output_left answer next ≡ applied blocks given e

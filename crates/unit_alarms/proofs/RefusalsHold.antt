@@ -13,7 +13,7 @@ use Rattle.unit_alarms_list.specs.Alarm.{class_known}
 use Rattle.unit_alarms_list.specs.declared.Alarm.{Alarm}
 use Rattle.unit_alarms_list.specs.Events.{arrival, clearing}
 use Rattle.unit_alarms.specs.Calls.{judge, arrive_call, clear_call, tells, gravest_in, gravest_call}
-use Rattle.unit_alarms.specs.Refusals.{Refusals, RefusalsOnAlarms}
+use Rattle.unit_alarms.specs.Refusals.{RefusalsOnAlarms}
 
 never : (b : Bool) → b && false ≡ false
 never true = refl

@@ -1,4 +1,6 @@
 // Alarms that come and clear: the list of open ones and the gravest of them, kept in six homes. It stands on the store's calls alone.
+#![tactic(auto)]
+
 ghost use Rattle.std.specs.Prelude.{◌≡◌, []};
 ghost use Rattle.unit_shared.specs.Unit.{lent_to, leaves};
 ghost use Rattle.unit_alarms_list.specs.Alarm.{alarm};
@@ -11,7 +13,7 @@ const HOME: u64 = 24;
 
 // The gravest open alarm: 0 and the alarm, three zeros if none is open; or the number of the refusal and zeros.
 #[repr(C)]
-#[derive(Drop)]
+#[derive(Clone, Copy)]
 pub struct Gravest {
     pub code: u64,
     pub identity: u64,

@@ -1,6 +1,6 @@
 -- What the calls on the table answer in every history. Assumes nothing.
-use Prim.Native.Nat.{ℕ, zero, suc, ◌+◌, ◌*◌, ◌≤◌, ◌<◌}
-use mathlib.Core.Path.{◌≡◌, refl, sym, ap, ◌∙◌}
+use Prim.Native.Nat.{ℕ, zero, suc, ◌+◌, ◌≤◌, ◌<◌}
+use mathlib.Core.Path.{◌≡◌, refl, ap, ◌∙◌}
 use mathlib.Core.Bool.{Bool, true, false, cond}
 use mathlib.Core.List.{List, []}
 use native.Mathlib.Decide.{dec_lt}
@@ -13,7 +13,7 @@ use Rattle.model.specs.History.{World, Formatting, after_format}
 use Rattle.abstract_store.specs.Store.{Store}
 use Rattle.unit_events.specs.Homes.{table_home, table_homes}
 use Rattle.unit_events.specs.Folded.{Step, noted, ran, notes, AllStepsAllowed, SparedBySteps}
-use Rattle.unit_shared.specs.Unit.{UnitOutcome, untouched, fetched}
+use Rattle.unit_shared.specs.Unit.{untouched, fetched}
 use Rattle.unit_shared.specs.Moments.{lent_in}
 use Rattle.unit_shared.specs.Replies.{ask_read, reply_stored, told_by, Answered, store_next_to}
 use Rattle.unit_shared.proofs.RepliesHold.{fetched-code, transacted-told, few-unread, few-unfetched, answered-there}

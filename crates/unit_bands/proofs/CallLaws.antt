@@ -9,7 +9,7 @@ use Rattle.model.specs.Bytes.{zeros}
 use Rattle.call_ask.specs.Lent.{lent_all, leaves_everything}
 use Rattle.acts.specs.Many.{fetch_call, transact_call}
 use Rattle.unit_events.specs.Homes.{table_home}
-use Rattle.unit_shared.specs.Unit.{Lent, UnitOutcome, leaves, fetched}
+use Rattle.unit_shared.specs.Unit.{Lent, leaves, fetched}
 use Rattle.unit_shared.proofs.UnitLaws.{refusal, transaction, read_as, fetching}
 use Rattle.unit_bands_table.specs.Judge.{verdict, depths, judgement}
 use Rattle.unit_bands_table.specs.Packed.{Lookup, answered, pack, look_up}

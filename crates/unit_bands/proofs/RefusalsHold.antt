@@ -12,7 +12,7 @@ use Rattle.unit_shared.proofs.RefusalsHold.{untouched-refuses, unit-refusals}
 use Rattle.unit_bands_table.specs.Judge.{depths, judgement}
 use Rattle.unit_bands_table.specs.Packed.{answered, pack}
 use Rattle.unit_bands.specs.Calls.{accepted, set_call, found_within, look_up_call}
-use Rattle.unit_bands.specs.Refusals.{Refusals, RefusalsOnTables}
+use Rattle.unit_bands.specs.Refusals.{RefusalsOnTables}
 
 module _ (l : Lent) (writer : ℕ) where
   deep : (mm : ℕ) → 9999 < mm → look_up_call l writer mm ≡ answered 11 0 0 0

@@ -1,7 +1,7 @@
 -- The table of depth bands in every history. Assumes nothing.
-use Prim.Native.Nat.{ℕ, ◌+◌, ◌*◌, ◌≤◌}
-use mathlib.Core.Path.{◌≡◌, refl, sym, ap, ◌∙◌, subst}
-use mathlib.Core.Bool.{true, cond}
+use Prim.Native.Nat.{ℕ, ◌*◌}
+use mathlib.Core.Path.{◌≡◌, refl, subst}
+use mathlib.Core.Bool.{true}
 use mathlib.Core.List.{List}
 use mathlib.Core.Option.{Option}
 use native.Mathlib.Omega.{arith}
@@ -11,12 +11,11 @@ use Rattle.unit_events.specs.Homes.{table_home}
 use Rattle.unit_events.specs.Offered.{held_after}
 use Rattle.unit_events.specs.Folded.{noted, sets, ran, notes, stepped, Folded, Recorded, Growing}
 use Rattle.unit_events.proofs.FoldedHolds.{events-folded, events-recorded}
-use Rattle.unit_shared.specs.Unit.{UnitOutcome, transacted}
+use Rattle.unit_shared.specs.Unit.{transacted}
 use Rattle.unit_shared.specs.Moments.{lent_in, Leaves}
 use Rattle.unit_shared.proofs.MomentLaws.{set-stands}
 use Rattle.unit_shared.proofs.MomentShown.{shown-there, kept_there}
 use Rattle.unit_bands_table.specs.Judge.{judgement}
-use Rattle.unit_bands_table.specs.Packed.{pack}
 use Rattle.unit_bands_table.specs.Stored.{judged, stored, answer_by, Accepted}
 use Rattle.unit_bands_table.proofs.StoredHolds.{filling}
 use Rattle.unit_bands.specs.Calls.{accepted, set_call}

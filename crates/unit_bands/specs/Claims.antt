@@ -1,7 +1,7 @@
 -- What the request promises at a moment of a history whose commits are, among others, the tables `ts`: a lookup goes by the last of them. That the three
 -- homes then hold it, for every history with crashes, follows from `Recording` (events' EventsRecorded).
 use Rattle.std.specs.Prelude.{ℕ, ◌≤◌, ◌≡◌, List, [], ◌∷◌, ◌++◌, ◌≢◌, length}
-use Rattle.std.proofs.Math.Option.{none, some}
+use Rattle.std.proofs.Math.Option.{some}
 use Rattle.model.specs.Bytes.{zeros}
 use Rattle.unit_events.specs.Homes.{table_home, table_homes}
 use Rattle.unit_shared.specs.Unit.{Lent, untouched, fetched, transacted}

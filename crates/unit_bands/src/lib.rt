@@ -1,4 +1,6 @@
 // Depth bands: a table of which pumps run at which depth, set as one transaction and looked up. It stands on the store's calls alone.
+#![tactic(auto)]
+
 ghost use Rattle.std.specs.Prelude.{◌≡◌, []};
 ghost use Rattle.unit_shared.specs.Unit.{lent_to, leaves};
 ghost use Rattle.unit_bands_table.specs.Packed.{answered};
@@ -11,7 +13,7 @@ const HOME: u64 = 12;
 
 // The row of a depth: 0 and the row, or the number of the refusal and zeros.
 #[repr(C)]
-#[derive(Drop)]
+#[derive(Clone, Copy)]
 pub struct Band {
     pub code: u64,
     pub from: u64,

@@ -1,17 +1,16 @@
 -- What the calls on pumps answer in every history. Assumes nothing.
 use Prim.Native.Nat.{ℕ, zero, suc, ◌+◌, ◌*◌, ◌≤◌, ◌<◌}
-use mathlib.Core.Path.{◌≡◌, refl, sym, ap, ◌∙◌}
+use mathlib.Core.Path.{◌≡◌, ap, ◌∙◌}
 use mathlib.Core.Bool.{true}
 use mathlib.Core.Logic.{◌≢◌}
 use mathlib.Core.List.{List, []}
 use native.Mathlib.Omega.{arith}
 use borrow.Author.Tests.{le-leb, lt-leb}
-use lib.Dec.{leb}
 use lib.ListN.{length}
 use Rattle.model.specs.Questions.{ask}
 use Rattle.model.specs.Bytes.{zeros}
 use Rattle.model.specs.History.{World, Formatting, after_format}
-use Rattle.abstract_store.specs.Store.{Store, told}
+use Rattle.abstract_store.specs.Store.{Store}
 use Rattle.unit_events.specs.Homes.{pump_home}
 use Rattle.unit_events.specs.Offered.{held_after}
 use Rattle.unit_events.specs.Folded.{Step, noted, ran, notes, AllStepsAllowed, SparedBySteps}
@@ -25,7 +24,7 @@ use Rattle.unit_hours_book.specs.Events.{Event}
 use Rattle.unit_hours_book.specs.Guarantees.{answer_by, held_with, Represents, Timed}
 use Rattle.unit_hours_book.specs.Stored.{judged}
 use Rattle.unit_hours_book.proofs.StoredHolds.{filling, hours-recorded}
-use Rattle.unit_hours.specs.Calls.{judge, event_call, hours_told, services_told, due_tells, hours_call, services_call}
+use Rattle.unit_hours.specs.Calls.{judge, event_call, hours_told, services_told, hours_call, services_call}
 use Rattle.unit_hours.specs.Claims.{Claim}
 use Rattle.unit_hours.specs.Answers.{event_reply, hours_answered, hours_reply, services_answered, services_reply, PumpAnswers, HoursAnswer}
 use Rattle.unit_hours.proofs.RefusalsHold.{refusals-on-pumps}

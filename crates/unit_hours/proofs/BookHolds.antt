@@ -1,7 +1,7 @@
 -- The pump hours book in every history. Assumes nothing.
-use Prim.Native.Nat.{ℕ, ◌+◌, ◌*◌, ◌≤◌}
-use mathlib.Core.Path.{◌≡◌, refl, sym, ap, ◌∙◌, subst}
-use mathlib.Core.Bool.{true, cond}
+use Prim.Native.Nat.{ℕ, ◌*◌, ◌≤◌}
+use mathlib.Core.Path.{◌≡◌, subst}
+use mathlib.Core.Bool.{true}
 use mathlib.Core.List.{List}
 use mathlib.Core.Option.{Option}
 use native.Mathlib.Omega.{arith}
@@ -12,11 +12,11 @@ use Rattle.unit_events.specs.Homes.{pump_home}
 use Rattle.unit_events.specs.Offered.{held_after}
 use Rattle.unit_events.specs.Folded.{noted, offers, ran, notes, stepped, Folded, Recorded}
 use Rattle.unit_events.proofs.FoldedHolds.{events-folded}
-use Rattle.unit_shared.specs.Unit.{UnitOutcome, as_judged as judges, event}
+use Rattle.unit_shared.specs.Unit.{as_judged as judges, event}
 use Rattle.unit_shared.specs.Moments.{lent_in, Leaves}
 use Rattle.unit_shared.proofs.MomentLaws.{event-stands}
 use Rattle.unit_shared.proofs.MomentShown.{shown-there, kept_there}
-use Rattle.unit_hours_book.specs.Events.{Event, applied}
+use Rattle.unit_hours_book.specs.Events.{Event}
 use Rattle.unit_hours_book.specs.Guarantees.{answer_by, held_with, Represents, Timed}
 use Rattle.unit_hours_book.specs.Stored.{judged}
 use Rattle.unit_hours_book.proofs.StoredHolds.{filling, hours-recorded}

@@ -2,17 +2,16 @@
 use Prim.Native.Nat.{ℕ, zero, suc, ◌≤◌, ◌<◌}
 use mathlib.Core.Path.{◌≡◌, refl}
 use mathlib.Core.Bool.{Bool, true, false, cond}
-use mathlib.Core.List.{List}
 use mathlib.Core.Logic.{◌≢◌}
 use native.Mathlib.Omega.{arith}
 use borrow.Author.Tests.{ne_eqb, le-leb, lt-leb}
 use Rattle.unit_events.specs.Homes.{pump_home}
-use Rattle.unit_shared.specs.Unit.{Lent, UnitOutcome, untouched, fetched, revised, after_reading, event}
+use Rattle.unit_shared.specs.Unit.{Lent, untouched, fetched, revised, after_reading, event}
 use Rattle.unit_shared.specs.Refusals.{Refusal}
 use Rattle.unit_shared.proofs.RefusalsHold.{untouched-refuses, unit-refusals}
 use Rattle.unit_hours_book.specs.Events.{Event}
 use Rattle.unit_hours.specs.Calls.{known, judge, event_call, hours_told, hours_in, hours_call, services_told, services_of, services_call}
-use Rattle.unit_hours.specs.Refusals.{Refusals, RefusalsOnPumps}
+use Rattle.unit_hours.specs.Refusals.{RefusalsOnPumps}
 
 module _ (l : Lent) (writer pump : ℕ) where
   no-pump : 7 < pump → (e : Event) → (event_call l writer pump e).code ≡ 14

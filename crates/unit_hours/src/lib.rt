@@ -1,4 +1,6 @@
 // Pump hours book: starts and stops of pumps 0 to 7, their starts and run seconds, and the services due. It stands on the store's calls alone.
+#![tactic(auto)]
+
 ghost use Rattle.std.specs.Prelude.{◌≡◌, []};
 ghost use Rattle.unit_shared.specs.Unit.{lent_to, leaves};
 ghost use Rattle.unit_hours_book.specs.Events.{start_at, stop_at};
@@ -13,7 +15,7 @@ const HOMES: u64 = 16;
 
 // Starts of a pump and the seconds of its finished runs; zeros with the number of a refusal.
 #[repr(C)]
-#[derive(Drop)]
+#[derive(Clone, Copy)]
 pub struct Hours {
     pub code: u64,
     pub starts: u64,
@@ -22,7 +24,7 @@ pub struct Hours {
 
 // Whole services due of a pump and the seconds left over; zeros with the number of a refusal.
 #[repr(C)]
-#[derive(Drop)]
+#[derive(Clone, Copy)]
 pub struct Services {
     pub code: u64,
     pub due: u64,

@@ -1,20 +1,20 @@
 -- A call on a unit leaves what its step in a history leaves. Assumes nothing.
 use Prim.Native.Nat.{ℕ, zero, suc, ◌*◌}
 use mathlib.Core.Path.{◌≡◌, refl, sym, ap, ◌∙◌, subst}
-use mathlib.Core.Bool.{Bool, true, false, cond}
-use mathlib.Core.List.{List, [], ◌∷◌, ◌++◌, append-nil}
+use mathlib.Core.Bool.{cond}
+use mathlib.Core.List.{List, [], ◌++◌, append-nil}
 use native.Mathlib.Omega.{arith}
 use lib.Dec.{eqb}
 use lib.ListN.{take}
-use borrow.Author.Tests.{eq-eqb, ne_eqb}
+use borrow.Author.Tests.{ne_eqb}
 use Rattle.model.specs.Bytes.{zeros}
 use Rattle.model.specs.Batch.{read_batch, read_records}
 use Rattle.model.specs.Calls.{Outcome}
 use Rattle.model.specs.History.{World, lent}
-use Rattle.acts.specs.Units.{Act, revises, transacts, transact_ends, revise_ends, act, acted, left_under as left_in}
+use Rattle.acts.specs.Units.{transacts, transact_ends, revise_ends, act, acted, left_under as left_in}
 use Rattle.unit_events.proofs.PromisesHold.{refusals-stay}
-use Rattle.unit_events.specs.Folded.{offers, sets, first, read_for, event_answer, storing, acts_of, answered, stepped}
-use Rattle.unit_shared.specs.Unit.{Lent, UnitOutcome, Judged, as_judged, untouched, left_under, revised, transacted, stored, after_reading, event}
+use Rattle.unit_events.specs.Folded.{offers, first, read_for, event_answer, storing, acts_of, answered, stepped}
+use Rattle.unit_shared.specs.Unit.{UnitOutcome, Judged, as_judged, untouched, left_under, revised, transacted, stored, after_reading, event}
 use Rattle.unit_shared.specs.Moments.{lent_in, Leaves, EventStands, SetStands}
 
 none_read : (w : World) (batch : List ℕ) → w.pending ++ read_batch (take 0 batch) ≡ w.pending

@@ -1,6 +1,6 @@
 -- What refused calls on units leave. Assumes nothing.
 use Prim.Native.Nat.{ℕ, zero, suc}
-use mathlib.Core.Path.{◌≡◌, refl}
+use mathlib.Core.Path.{refl}
 use mathlib.Core.Bool.{Bool, true, false, cond}
 use mathlib.Core.List.{List}
 use mathlib.Core.Logic.{◌≢◌}
@@ -9,7 +9,7 @@ use Rattle.model.specs.Effects.{Given, Effect}
 use Rattle.model.specs.Calls.{Outcome, refused, done, outcome, size_of}
 use Rattle.acts.specs.Many.{transact_effect, transact_answer, transact_call}
 use Rattle.call_ask.specs.Lent.{lent_all}
-use Rattle.unit_shared.specs.Unit.{Lent, UnitOutcome, Judged, leaves, untouched, left_under, revised, transacted, stored, after_reading, event}
+use Rattle.unit_shared.specs.Unit.{Lent, Judged, untouched, left_under, revised, transacted, stored, after_reading, event}
 use Rattle.unit_shared.specs.Refusals.{Refusal, UnitRefusals}
 
 pub untouched-refuses : (l : Lent) (code figure : ℕ) → Refusal l figure (untouched l code figure)

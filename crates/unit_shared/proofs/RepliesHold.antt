@@ -1,16 +1,15 @@
 -- What calls on a unit answer, from what fetch, revise and transact answer. Assumes nothing.
-use Prim.Native.Nat.{ℕ, zero, suc, ◌+◌, ◌*◌, ◌/◌, ◌≤◌, ◌<◌}
+use Prim.Native.Nat.{ℕ, zero, suc, ◌+◌, ◌*◌, ◌≤◌, ◌<◌}
 use mathlib.Core.Path.{◌≡◌, refl, sym, ap, ◌∙◌, subst}
 use mathlib.Core.Logic.{◌≢◌}
-use mathlib.Core.Bool.{Bool, true, false, cond, ◌&&◌}
-use mathlib.Core.List.{List, [], ◌∷◌, ◌++◌, append-nil}
+use mathlib.Core.Bool.{Bool, true, false, cond}
+use mathlib.Core.List.{List, [], ◌∷◌}
 use native.Mathlib.Omega.{arith}
 use lib.Dec.{eqb, leb, ltb}
 use lib.ListN.{length}
 use borrow.Author.Tests.{eq-eqb, ne_eqb, le-leb, lt-leb}
 use Rattle.model.specs.Bytes.{zeros}
 use Rattle.model.specs.Questions.{ask}
-use Rattle.model.specs.Calls.{Outcome}
 use Rattle.model.specs.History.{World, Formatting, after_format, lent}
 use Rattle.model_laws.proofs.bytes.ByteLaws.{length-zeros}
 use Rattle.abstract_store.specs.Store.{Store, next_of, Reply, told, reply_of}

@@ -1,4 +1,6 @@
 // What the calls on units share: how an event ends. Definitions and laws stand in specs and proofs.
+#![tactic(auto)]
+
 ghost use Rattle.std.specs.Prelude.{◌≡◌};
 ghost use Rattle.unit_shared.specs.Unit.{lent_to, leaves, as_judged, stored};
 
