@@ -1,4 +1,6 @@
 // Flush: a part-filled group is handed on, then a fence.
+#![tactic(auto)]
+
 ghost use Rattle.std.specs.Prelude.{◌≡◌, cond, [], ◌∷◌, ◌+◌, ◌*◌, ◌%◌, ◌^◌, ◌<◌, ◌≤◌, length, eqb};
 ghost use Rattle.model.specs.Bytes.{puts};
 ghost use Rattle.model.specs.Layout.{group_at};

@@ -5,14 +5,14 @@ use borrow.Author.Rules.{rules}
 use Rattle.call_flush.proofs.flush_size.Statement.{statement}
 use Rattle.call_flush.proofs.flush_size.Tie as tie
 
-returns : tie.Need-returns
-returns c = pick_yes c.before.before.args.st.filled 0 2 (516 + 2) c.if1.true
+returns : tie.Need-returns-then-st-eq0
+returns c = pick_yes c.args.st.filled 0 2 (516 + 2) c.if-st-eq0.true
 
-add-result : tie.Need-overflow-add-result
+add-result : tie.Need-overflow_add-result
 add-result c = search rules
 
-returns-2 : tie.Need-returns-2
-returns-2 c = pick_no c.before.before.args.st.filled 0 2 (516 + 2) c.if1.false
+returns-2 : tie.Need-returns
+returns-2 c = pick_no c.args.st.filled 0 2 (516 + 2) c.if-st-eq0.false
 
-pub flush-size-spec : {M : Type 1} → statement M
-flush-size-spec = tie.close (tie.spec returns add-result returns-2)
+pub flush_size_spec : {M : Type 1} → statement M
+flush_size_spec = tie.close (tie.spec returns add-result returns-2)
