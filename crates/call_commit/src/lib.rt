@@ -1,4 +1,6 @@
 // Commit: the held block is logged as the closing entry.
+#![tactic(auto)]
+
 ghost use Rattle.std.specs.Prelude.{◌≡◌, [], ◌+◌, ◌*◌, ◌≤◌, ◌<◌, length};
 ghost use Rattle.model.specs.State.{state_of, next_position, writer_of, set_writer, set_promise, idle, first_for};
 ghost use Rattle.model.specs.Effects.{commit_effect};

@@ -5,47 +5,41 @@ use borrow.Author.Rules.{rules}
 use Rattle.call_commit.proofs.close_held.Statement.{statement}
 use Rattle.call_commit.proofs.close_held.Tie as tie
 
-next-position-requires : tie.Need-next-position-requires
+next-position-requires : tie.Need-next_position-position-requires
 next-position-requires c κs = search rules
 
-closing-word-requires : tie.Need-closing-word-requires
-closing-word-requires c κs = at_position _ _ _ _ c.next-position.ensures c.before.before.before.before.requires.1
+closing-word-requires : tie.Need-closing_word-word-requires
+closing-word-requires c κs = at_position _ _ _ _ c.next_position-position.ensures c.requires.1
 
-log-entry-requires : tie.Need-log-entry-requires
+log-entry-requires : tie.Need-log_entry-size-requires
 log-entry-requires c κs =
-    let w = c.before.before.before in
-    (may-own _ _ _ _ _ w.before.before.before.before.before.requires.0, w.closing-word.ensures.1)
+    (may-own _ _ _ _ _ c.requires.0, c.closing_word-word.ensures.1)
 
-add-set-last : tie.Need-overflow-add-set-last
+add-set-last : tie.Need-overflow_add-position
 add-set-last c = search rules
 
-set-last-requires : tie.Need-set-last-requires
+set-last-requires : tie.Need-set_last-requires
 set-last-requires c κs = search rules
 
 abort-requires : tie.Need-abort-requires
 abort-requires c κs = search rules
 
-same_length : tie.Need-same-length
+same_length : tie.Need-shape_of-log
 same_length c = search rules
 
-same-length-2 : tie.Need-same-length-2
+same-length-2 : tie.Need-shape_of-state
 same-length-2 c = search rules
 
-same-length-3 : tie.Need-same-length-3
+same-length-3 : tie.Need-shape_of-batch
 same-length-3 c = search rules
 
 returns : tie.Need-returns
 returns c =
-    let c5 = c.before.before in
-    let c4 = c5.before.before.before.before in
-    let c3 = c4.before.before.before.before.before.before.before.before in
-    let c2 = c3.before.before.before.before in
-    let c1 = c2.before in
-    committed _ _ _ _ _ _ _ _ _ _ _ _ _ _ c1.next-position.ensures c2.closing-word.ensures.0 c3.log-entry.ensures
-    c4.set_last.ensures c5.abort.ensures
+    committed _ _ _ _ _ _ _ _ _ _ _ _ _ _ c.next_position-position.ensures c.closing_word-word.ensures.0 c.log_entry-size.ensures
+    c.set_last.ensures c.abort.ensures
 
-pub close-held-spec : {M : Type 1} → statement M
-close-held-spec =
+pub close_held_spec : {M : Type 1} → statement M
+close_held_spec =
     tie.close
     (tie.spec
     next-position-requires

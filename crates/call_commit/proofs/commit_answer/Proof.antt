@@ -1,5 +1,6 @@
 -- `call_commit::commit_answer` meets its contract. Assumes nothing.
-use mathlib.Core.Path.{refl}
+use mathlib.Core.Bool.{not}
+use mathlib.Core.Path.{refl, ap}
 use native.Mathlib.Omega.{arith}
 use Rattle.call_ask.proofs.AnswerLaws.{usable-groups}
 use Rattle.call_commit.proofs.CommitLaws.{refuses, lent-use, writer-no, open_no, none-yes, held_asks}
@@ -7,80 +8,51 @@ use borrow.Author.Rules.{rules}
 use Rattle.call_commit.proofs.commit_answer.Statement.{statement}
 use Rattle.call_commit.proofs.commit_answer.Tie as tie
 
-newest-answer-requires : tie.Need-newest-answer-requires
+newest-answer-requires : tie.Need-newest_answer-asked-requires
 newest-answer-requires c κs = search rules
 
-returns : tie.Need-returns
-returns c = refuses _ _ _ _ _ _ _ c.before.newest-answer.ensures c.if1.true
+returns : tie.Need-returns-then-asked-ne0
+returns c = refuses _ _ _ _ _ _ _ c.newest_answer-asked.ensures c.if-asked-ne0.true
 
-returns-2 : tie.Need-returns-2
+returns-2 : tie.Need-returns-then-writer-ge8
 returns-2 c =
-    let c3 = c.before in
-    let c2 = c3.before in
-    let c1 = c2.before.before.before.before.before.before in
-    writer-no _ _ _ _ _ c1.args.writer _ c2.newest-answer.ensures c3.if1.false (omega arith)
+    writer-no _ _ _ _ _ c.args.writer _ c.newest_answer-asked.ensures c.if-asked-ne0.false (omega arith)
 
-writer-requires : tie.Need-writer-requires
+writer-requires : tie.Need-writer-r-requires
 writer-requires c κs =
-    let c3 = c.before in
-    let c2 = c3.before in
-    let c1 = c2.before.before.before.before.before.before in
-    let a = c1.args in
-    let u = lent-use a.log.now a.area.now a.state.now a.newest.now a.batch.now a.writer _ c2.newest-answer.ensures c3.if1.false in
+    let a = c.args in
+    let u = lent-use a.log.now a.area.now a.state.now a.newest.now a.batch.now a.writer _ c.newest_answer-asked.ensures c.if-asked-ne0.false in
     (u.state-length, omega arith)
 
-is-open-requires : tie.Need-is-open-requires
+is-open-requires : tie.Need-is_open-requires
 is-open-requires c κs = search rules
 
-returns-3 : tie.Need-returns-3
+returns-3 : tie.Need-returns-then-not-is_open
 returns-3 c =
-    let c5 = c.before in
-    let c4 = c5.before in
-    let c3 = c4.before.before in
-    let c2 = c3.before in
-    let c1 = c2.before.before.before.before.before.before in
-    open_no _ _ _ _ _ c1.args.writer _ c2.newest-answer.ensures c3.if1.false _ _ (omega arith) c4.writer.ensures
-    c5.is_open.ensures c.if3.true
+    open_no _ _ _ _ _ c.args.writer _ c.newest_answer-asked.ensures c.if-asked-ne0.false _ _ (omega arith) c.writer-r.ensures
+    c.is_open.ensures (ap not c.if-not-is_open.true)
 
 holds-requires : tie.Need-holds-requires
 holds-requires c κs = search rules
 
-returns-4 : tie.Need-returns-4
+returns-4 : tie.Need-returns-then-not-holds
 returns-4 c =
-    let c7 = c.before in
-    let c6 = c7.before in
-    let c5 = c6.before in
-    let c4 = c5.before in
-    let c3 = c4.before.before in
-    let c2 = c3.before in
-    let c1 = c2.before.before.before.before.before.before in
-    none-yes _ _ _ _ _ c1.args.writer _ c2.newest-answer.ensures c3.if1.false _ _ (omega arith) c4.writer.ensures
-    c5.is_open.ensures _ c6.if3.false c7.holds.ensures c.if4.true
+    none-yes _ _ _ _ _ c.args.writer _ c.newest_answer-asked.ensures c.if-asked-ne0.false _ _ (omega arith) c.writer-r.ensures
+    c.is_open.ensures _ (ap not c.if-not-is_open.false) c.holds.ensures (ap not c.if-not-holds.true)
 
-log-answer-requires : tie.Need-log-answer-requires
+log-answer-requires : tie.Need-log_answer-requires
 log-answer-requires c κs =
-    let c3 = c.before.before.before.before.before.before in
-    let c2 = c3.before in
-    let c1 = c2.before.before.before.before.before.before in
-    let a = c1.args in
-    let u = lent-use a.log.now a.area.now a.state.now a.newest.now a.batch.now a.writer _ c2.newest-answer.ensures c3.if1.false in
-    (u.state-length, omega (arith, c.before.before.before.before.before.if2.false), usable-groups _ _ _ _ u refl)
+    let a = c.args in
+    let u = lent-use a.log.now a.area.now a.state.now a.newest.now a.batch.now a.writer _ c.newest_answer-asked.ensures c.if-asked-ne0.false in
+    (u.state-length, omega (arith, c.if-writer-ge8.false), usable-groups _ _ _ _ u refl)
 
-returns-5 : tie.Need-returns-5
+returns-5 : tie.Need-returns
 returns-5 c =
-    let c8 = c.before in
-    let c7 = c8.before in
-    let c6 = c7.before in
-    let c5 = c6.before in
-    let c4 = c5.before in
-    let c3 = c4.before.before in
-    let c2 = c3.before in
-    let c1 = c2.before.before.before.before.before.before in
-    held_asks _ _ _ _ _ c1.args.writer _ c2.newest-answer.ensures c3.if1.false _ _ (omega arith) c4.writer.ensures
-    c5.is_open.ensures _ _ _ c6.if3.false c7.holds.ensures c8.if4.false refl c.log-answer.ensures
+    held_asks _ _ _ _ _ c.args.writer _ c.newest_answer-asked.ensures c.if-asked-ne0.false _ _ (omega arith) c.writer-r.ensures
+    c.is_open.ensures _ _ _ (ap not c.if-not-is_open.false) c.holds.ensures (ap not c.if-not-holds.false) refl c.log_answer.ensures
 
-pub commit-answer-spec : {M : Type 1} → statement M
-commit-answer-spec =
+pub commit_answer_spec : {M : Type 1} → statement M
+commit_answer_spec =
     tie.close
     (tie.spec
     newest-answer-requires

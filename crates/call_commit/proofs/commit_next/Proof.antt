@@ -4,38 +4,34 @@ use borrow.Author.Rules.{rules}
 use Rattle.call_commit.proofs.commit_next.Statement.{statement}
 use Rattle.call_commit.proofs.commit_next.Tie as tie
 
-state-requires : tie.Need-state-requires
+state-requires : tie.Need-state-st-requires
 state-requires c κs = search rules
 
-writer-requires : tie.Need-writer-requires
+writer-requires : tie.Need-writer-r-requires
 writer-requires c κs = search rules
 
-commit-held-requires : tie.Need-commit-held-requires
+commit-held-requires : tie.Need-commit_held-requires
 commit-held-requires c κs =
-    let s = c.before.before.before.before.before.before in
-    let i = s.before.before.before.before.before.before.before in
-    closing_at _ _ _ i.args.newest.now i.args.area.now _ _ _ s.state.ensures c.before.before.before.before.writer.ensures i.requires
+    closing_at _ _ _ c.args.newest.now c.args.area.now _ _ _ c.state-st.ensures c.writer-r.ensures c.requires
 
-same_length : tie.Need-same-length
+same_length : tie.Need-shape_of-log
 same_length c = search rules
 
-same-length-2 : tie.Need-same-length-2
+same-length-2 : tie.Need-shape_of-state
 same-length-2 c = search rules
 
-same-length-3 : tie.Need-same-length-3
+same-length-3 : tie.Need-shape_of-newest
 same-length-3 c = search rules
 
-same-length-4 : tie.Need-same-length-4
+same-length-4 : tie.Need-shape_of-batch
 same-length-4 c = search rules
 
 returns : tie.Need-returns
 returns c =
-    let k = c.before.before.before.before.before.before.before.before in
-    let w = k.before.before.before.before.before in
-    committed-at _ _ _ _ _ _ _ _ w.before.before.state.ensures w.writer.ensures _ _ _ _ _ k.commit-held.ensures
+    committed-at _ _ _ _ _ _ _ _ c.state-st.ensures c.writer-r.ensures _ _ _ _ _ c.commit_held.ensures
 
-pub commit-next-spec : {M : Type 1} → statement M
-commit-next-spec =
+pub commit_next_spec : {M : Type 1} → statement M
+commit_next_spec =
     tie.close
     (tie.spec
     state-requires

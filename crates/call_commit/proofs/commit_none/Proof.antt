@@ -7,17 +7,15 @@ use Rattle.call_commit.proofs.commit_none.Tie as tie
 abort-requires : tie.Need-abort-requires
 abort-requires c κs = search rules
 
-set-promise-requires : tie.Need-set-promise-requires
+set-promise-requires : tie.Need-set_promise-requires
 set-promise-requires c κs = search rules
 
-same_length : tie.Need-same-length
+same_length : tie.Need-shape_of-state
 same_length c = search rules
 
 returns : tie.Need-returns
 returns c =
-    let c2 = c.before.before in
-    let c1 = c2.before.before.before.before in
-    c2.set-promise.ensures ∙ rw c1.abort.ensures
+    c.set_promise.ensures ∙ rw c.abort.ensures
 
-pub commit-none-spec : {M : Type 1} → statement M
-commit-none-spec = tie.close (tie.spec abort-requires set-promise-requires same_length returns)
+pub commit_none_spec : {M : Type 1} → statement M
+commit_none_spec = tie.close (tie.spec abort-requires set-promise-requires same_length returns)
