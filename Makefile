@@ -28,11 +28,6 @@
 SHELL = /bin/bash
 .SHELLFLAGS = -o pipefail -c
 
-# The prover keeps memory that it has freed: giving it back took a fifth of its processor time.
-export MIMALLOC_PURGE_DELAY = -1
-# rt starts so many checks at once and waits for all of them before the next: one more than processors leaves none idle.
-export RT_JOBS ?= $(shell n=$$(nproc 2>/dev/null || echo 1); [ $$n -le 4 ] || n=4; echo $$((n + 1)))
-
 SEED ?= 1
 # The cases of the definitions draw a new seed each run and print it; give it to repeat a run.
 DEFINITIONS_SEED ?=
@@ -45,7 +40,7 @@ INFLOW_ARCHIVE = target/staticlib/libinflow.a
 ARCHIVES = $(ARCHIVE) $(GAUGES_ARCHIVE) $(INFLOW_ARCHIVE)
 MACHINE_ARCHIVE = target/staticlib/libobject_machine.a
 
-.PHONY: all help run quick test test-library test-compared test-c compare play bench bench-peers bench-docs reference library clean
+.PHONY: all help run quick test test-compared test-c compare play bench bench-peers bench-docs reference library clean
 
 # The toolchain that this repository was checked with, as 'rt version' prints it.
 RATTLE = rattle-kit-13f logic dac8208d650f15bf
@@ -119,13 +114,10 @@ test:
 test-reference: reference
 	cd rust && cargo test --release --offline --quiet
 
-test-proved: test-reference
-	python3 tests/definitions/definitions.py 200 $(DEFINITIONS_SEED)
-	verdict=$$(mktemp) && trap 'rm -f "$$verdict"' EXIT && \
-	rt ci 2>&1 | tee "$$verdict" && \
-	mkdir -p target/test && tail -n 1 "$$verdict" > target/test/verdict.txt && \
-	$(MAKE) --no-print-directory test-library && \
-	tail -n 1 "$$verdict"
+test-proved:
+	@scripts/proofs.sh
+	@$(MAKE) --no-print-directory test-rest
+	@cat target/test/verdict.txt
 
 test-unproved: all
 	@if command -v cargo > /dev/null; then $(MAKE) --no-print-directory test-reference; \
@@ -136,12 +128,22 @@ test-unproved: all
 	@echo "test: all passed that needs no prover. Left out, since rt is not on the path (docs/USING.md, Toolchain):"
 	@echo "  the proofs; the definitions against the reference implementation; dist/ made again from the proved program; the comparisons, which link the proved archive"
 
-# The comparisons and the tests of the C side need nothing of each other: two at a time, and what they say when both are done.
-test-library: rust/target/release/bench
-	@mkdir -p target/test && echo "test: comparisons and the C side, some minutes; target/test has what they say meanwhile"
-	@$(MAKE) --no-print-directory test-compared > target/test/compared.log 2>&1 & compared=$$!; \
+# What is not rt ci's: three lanes that need nothing of each other, once the archives and the reference implementation are built. What each says is printed when all are done.
+.PHONY: test-rest test-second archives
+archives: $(ARCHIVES)
+
+test-rest:
+	@mkdir -p target/test && echo "test: archives, comparisons and the C side, some minutes; target/test has what they say meanwhile"
+	@$(MAKE) --no-print-directory -j 4 archives reference
+	@$(MAKE) --no-print-directory test-second > target/test/second.log 2>&1 & second=$$!; \
+	$(MAKE) --no-print-directory test-compared > target/test/compared.log 2>&1 & compared=$$!; \
 	failed=0; $(MAKE) --no-print-directory test-c > target/test/c.log 2>&1 || failed=1; \
-	wait $$compared || failed=1; cat target/test/compared.log target/test/c.log; exit $$failed
+	wait $$compared || failed=1; wait $$second || failed=1; \
+	cat target/test/second.log target/test/compared.log target/test/c.log; exit $$failed
+
+# The second opinion: the reference implementation's own tests, and the definitions held to it.
+test-second: test-reference
+	python3 tests/definitions/definitions.py 200 $(DEFINITIONS_SEED)
 
 # The C object beside the proved machine; not in test-compared, since the archive takes two more minutes of proving.
 .PHONY: machine-compare
@@ -150,7 +152,7 @@ machine-compare: $(MACHINE_ARCHIVE)
 	$(CC) $(C_FLAGS) tests/store/machine_check.c dist/kagutin_all.c $(MACHINE_ARCHIVE) -o target/test/machine_check
 	target/test/machine_check
 
-test-compared:
+test-compared: rust/target/release/bench
 	$(MAKE) --no-print-directory dist-check
 	$(MAKE) --no-print-directory validate
 	$(MAKE) --no-print-directory validate-quick-check

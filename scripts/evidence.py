@@ -45,27 +45,35 @@ def verdict():
 
 
 def crates():
-    """Each listed crate: proved or not, functions, axioms, by the prover's own last line."""
-    rows = []
+    """Each listed crate: proved or not, functions, axioms, by what rt ci said of it in the run of make test; of a crate that was proved in an earlier run of the same
+    files on this machine, as it says, the functions are those of the program that it kept."""
+    said, rows = text_of("target/test/ci.log"), []
     for line in text_of("crates.txt").split("\n"):
-        name = line.split(":")[0].strip()
+        name = line.split(":")[0].split(" ")[0].strip()
         if not name or line.startswith("#"):
             continue
-        last = re.findall(r"^logic=.*$", text_of(f"target/log/{name}.out"), re.M)
+        part = re.search(rf"^== {name}\n(.*?)^rt: {name} (?:NOT )?(?i:proved)", said, re.M | re.S)
+        last = re.findall(r"^logic=.*$", part.group(1), re.M) if part else []
         fields = dict(re.findall(r"(\w[\w-]*)=(\S+)", last[-1])) if last else {}
-        rows.append({"crate": name, "logic": fields.get("logic", "not run"), "functions": int(fields.get("functions", 0)), "axioms": int(fields.get("axioms", 0))})
+        kept = re.search(rf"^rt: {name} is kept: ", said, re.M)
+        program = text_of(f"crates/{name}/out/rlib/{name}.rlib/toolchain/mir.json")
+        functions = int(fields.get("functions", 0)) or (len(json.loads(program)) if kept and program else 0)
+        axioms = sum(int(n) for n in re.findall(r"^axioms .*\((\d+) of the \d+ declared\)", part.group(1), re.M)) if part else 0
+        rows.append({"crate": name, "logic": fields.get("logic", "proved in an earlier run" if kept else "not run"), "functions": functions, "axioms": axioms})
     return rows
 
 
 def wrong_programs():
     """Each must-fail edit, and what the prover first said against it."""
-    rows = []
+    said, rows = text_of("target/test/ci.log"), []
     for path in sorted(glob.glob("crates/*/must-fail/*.edit")):
         crate, label = path.split("/")[1], os.path.basename(path)[: -len(".edit")]
-        log = text_of(f"target/must-fail/{crate}/{label}/.log")
-        error = re.search(r"error: (.*)", log)
+        told = re.search(rf"^rt: must-fail {crate}/{re.escape(label)}\.edit: (.*)$", said, re.M)
+        outcome = re.match(r"refused|NOT REFUSED|BAD EDIT|NOT TRIED", told.group(1)) if told else None
+        error = re.search(r"error: (.*)", told.group(1)) if told else None
         says = text_of(path).split("\n")[0].lstrip("# ")
-        rows.append({"edit": f"{crate}/{label}", "says": says, "clauses": re.findall(r"S-\d+", says), "outcome": "refused" if error else "accepted" if log else "not run",
+        rows.append({"edit": f"{crate}/{label}", "says": says, "clauses": re.findall(r"S-\d+", says),
+                     "outcome": {"refused": "refused", "NOT REFUSED": "accepted"}.get(outcome.group(0), "bad") if outcome else "not run",
                      "first_error": error.group(1)[:160] if error else ""})
     return rows
 

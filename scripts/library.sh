@@ -1,12 +1,11 @@
 #!/usr/bin/env bash
 # library.sh [CRATE [NAME [MORE..]]]: proves the crates of a library, by default kagutin, and writes target/staticlib/libNAME.a, by default
 # libCRATE.a, with the functions of CRATE and of MORE: those that the crates CRATE_c and so on export. Prints one line for each crate that is proved now;
-# what the prover says goes to target/library.log.
+# what the prover says goes to target/library.log, or target/library-NAME.log.
 # library.sh --crates CRATE..: prints the crates of that library. library.sh --below CRATE..: these crates and all that they depend on.
 # Where make test's rt ci has passed on these files, what it built is taken (scripts/over_proved.sh).
 set -uo pipefail
 cd "$(dirname "$0")/.." || exit
-log=target/library.log
 pinned=$(sed -n 's/^RATTLE = //p' Makefile)
 
 # The crates named and all that they depend on.
@@ -29,6 +28,8 @@ esac
 
 crate=${1:-kagutin}
 archive=target/staticlib/lib${2:-$crate}.a
+log=target/library.log
+[ "${2:-$crate}" = kagutin ] || log=target/library-${2:-$crate}.log
 of=("$crate" "${@:3}")
 
 if ! command -v rt > /dev/null; then

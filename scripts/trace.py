@@ -170,7 +170,7 @@ def in_record(before):
 def proof_of(name, path):
     """Proof files in which the type of something public ends in the statement of that file; the theorems before what stands on them."""
     crate, module = re.match(r"crates/(\w+)/specs/(.*)\.antt", path).groups()
-    used = re.compile(rf"^(?:\w+ )*use Rattle·{crate}(?:·specs)?\.specs\.{re.escape(module.replace('/', '.'))}\.\{{[^}}]*(?<![\w-]){re.escape(name)}(?![\w-])", re.M)
+    used = re.compile(rf"^(?:\w+ )*use Rattle\.{crate}\.specs\.{re.escape(module.replace('/', '.'))}\.\{{[^}}]*(?<![\w-]){re.escape(name)}(?![\w-])", re.M)
     ends = re.compile(rf"^[ \t]*pub \S+ :(?:.*→)?\s*{re.escape(name)}(?![\w-])[^→\n]*$(?!\n\s*→)", re.M)
     found = []
     for proof in glob.glob("crates/*/proofs/**/*.antt", recursive=True):

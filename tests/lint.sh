@@ -17,7 +17,6 @@ try() {
 
 log=$(mktemp) || exit 1
 trap 'rm -f "$log"' EXIT
-try "rt fmt" "command -v rt" rt fmt --check
 try "cargo fmt" "cargo fmt --version" cargo fmt --manifest-path rust/Cargo.toml --all --check
 try "cargo clippy, the crate" "cargo clippy --version" cargo clippy --manifest-path rust/Cargo.toml --offline --quiet -p kagutin --all-targets -- -D warnings
 # shellcheck disable=SC2086 # one word for each file

@@ -14,7 +14,6 @@ import collections
 import json
 import pathlib
 import random
-import shutil
 import subprocess
 import sys
 import tempfile
@@ -23,19 +22,17 @@ ROOT = pathlib.Path(__file__).resolve().parents[2]
 VECTORS = ROOT / "rust/target/release/vectors"
 
 HEAD = """-- Written by tests/definitions/definitions.py.
-use mathlib.Core.Path.{_≡_, refl}
-use mathlib.Core.Bool.{Bool, true, _&&_}
-use mathlib.Core.List.{List, [], _∷_, _++_}
-use Prim.Native.Nat.{ℕ}
-use lib.Dec.{eqb}
-use lib.ListN.{replicate}
-use Rattle·model.specs.Bytes.{same}
-use Rattle·model.specs.Effects.{Given}
-use Rattle·model.specs.Calls.{Outcome, formatCall, openCall, beginCall, reserveCall, abortCall, storeCall, commitCall, flushCall, confirmCall, settleCall, beginRoundCall, stepRoundCall, trimCall, readCall}
-use Rattle·acts.specs.Many.{SEVERAL}
-use Rattle·model.specs.declared.Usage.{Usage}
-use Rattle·abstract_store.specs.Usage.{USAGES}
-use Rattle·model.proofs.Computing.{all-definitions}
+use mathlib.Core.Path.{◌≡◌, refl}
+use mathlib.Core.Bool.{Bool, true, ◌&&◌}
+use mathlib.Core.List.{List, [], ◌∷◌, ◌++◌}
+use Rattle.std.specs.Prelude.{ℕ, eqb, replicate}
+use Rattle.model.specs.Bytes.{same}
+use Rattle.model.specs.Effects.{Given}
+use Rattle.model.specs.Calls.{Outcome, format_call, open_call, begin_call, reserve_call, abort_call, store_call, commit_call, flush_call, confirm_call, settle_call, begin_round_call, step_round_call, trim_call, read_call}
+use Rattle.acts.specs.Many.{SEVERAL}
+use Rattle.model.specs.declared.Usage.{Usage}
+use Rattle.abstract_store.specs.Usage.{USAGES}
+use Rattle.model.proofs.examples.Computing.{all-definitions}
 
 data Run : Type 0 where
   r : ℕ → ℕ → Run
@@ -45,22 +42,25 @@ spread [] = []
 spread (r b n ∷ rs) = replicate n b ++ spread rs
 
 agrees : Outcome → ℕ → ℕ → ℕ → List Run → List Run → List Run → List Run → List Run → List Run → Bool
-agrees o c f n s p l a b t = eqb (o .code) c && eqb (o .figure) f && eqb (o .size) n && same (o .state) (spread s) && same (o .newest) (spread p) && same (o .log) (spread l) && same (o .area) (spread a) && same (o .block) (spread b) && same (o .batch) (spread t)
+agrees o c f n s p l a b t = eqb o.code c && (eqb o.figure f && (eqb o.size n && (same o.state (spread s) && (same o.newest (spread p) && (same o.log (spread l) && (same o.area (spread a) && (same o.block (spread b) && same o.batch (spread t))))))))
 
 tells : Usage → ℕ → ℕ → ℕ → ℕ → ℕ → ℕ → ℕ → Bool
-tells u c l d f p h w = eqb (u .code) c && eqb (u .live) l && eqb (u .dead) d && eqb (u .free) f && eqb (u .promised) p && eqb (u .holder) h && eqb (u .first) w
+tells u c l d f p h w = eqb u.code c && (eqb u.live l && (eqb u.dead d && (eqb u.free f && (eqb u.promised p && (eqb u.holder h && eqb u.first w)))))
 
 gives : List Run → List Run → List Run → List Run → List Run → List Run → ℕ → ℕ → Given
 gives s p l a b t w h = record { state = spread s; newest = spread p; log = spread l; area = spread a; block = spread b; batch = spread t; writer = w; home = h }
 """
 
 
+# The crates that define the calls.
+CRATES = ("abstract_store", "acts", "model")
+
 # The definitions of calls on several homes, unfolded for their cases.
-SEVERAL = """blocksLent lentOn andThen storedFirst transactEffect blocksRead fetchEffect blocksRight homesKnown allOf mayStoreAll mayReadAll
-roomForAll askHomes fetchAnswer reviseAnswer transactAnswer fetchCall reviseCall transactCall""".split()
+SEVERAL = """blocks_lent lent_on and_then stored_first transact_effect blocks_read fetch_effect blocks_right homes_known all_of may_store_all may_read_all
+room_for_all ask_homes fetch_answer revise_answer transact_answer fetch_call revise_call transact_call""".split()
 
 # Those of the call usage.
-USAGES = "entriesIn committedEntries openEntries noHolder holdsLower holderOf usageOf usageRefused usageIf usageCall".split()
+USAGES = "entries_in committed_entries open_entries no_holder holds_lower holder_of usage_of usage_refused usage_if usage_call".split()
 
 
 def runs(pairs):
@@ -70,7 +70,7 @@ def runs(pairs):
 def told(number, case):
     lent = " ".join(runs(case[k]) for k in ("state", "newest", "log", "data", "block", "batch"))
     numbers = " ".join(str(n) for n in [case["code"]] + case["told"])
-    return f"\ncase{number} : tells (usageCall (gives {lent} 0 0)) {numbers} ≡ true\nunfolding all-definitions spread tells gives {' '.join(USAGES)}\ncase{number} = refl\n"
+    return f"\ncase{number} : tells (usage_call (gives {lent} 0 0)) {numbers} ≡ true\nunfolding all-definitions spread tells gives {' '.join(USAGES)}\ncase{number} = refl\n"
 
 
 def statement(number, case):
@@ -78,13 +78,24 @@ def statement(number, case):
         return told(number, case)
     lent = " ".join(runs(case[k]) for k in ("state", "newest", "log", "data", "block", "batch"))
     left = " ".join(runs(case[k]) for k in ("state2", "newest2", "log2", "data2", "block2", "batch2"))
-    name = {"begin_round": "beginRound", "step_round": "stepRound"}.get(case["call"], case["call"])
-    call = f"{name}Call (gives {lent} {case['writer']} {case['home']})"
+    name = case["call"]
+    call = f"{name}_call (gives {lent} {case['writer']} {case['home']})"
     if case["call"] in ("reserve", "step_round"):
-        call = f"{name}Call (gives {lent} {case['writer']} 0) {case['home']}"
+        call = f"{name}_call (gives {lent} {case['writer']} 0) {case['home']}"
     claim = f"agrees ({call}) {case['code']} {case['figure']} {case['len']} {left} ≡ true"
     more = " ".join([""] + SEVERAL) if case["call"] in ("fetch", "revise", "transact") else ""
     return f"\ncase{number} : {claim}\nunfolding all-definitions spread agrees gives{more}\ncase{number} = refl\n"
+
+
+def checked(folder, text):
+    """What the prover says of a crate with these statements, over the crates that define the calls, as they are built."""
+    for part in ("src", "proofs"):
+        (folder / "cases" / part).mkdir(parents=True)
+    (folder / "cases/src/lib.rt").write_text("// cases\n#![tactic(auto)]\n")
+    (folder / "cases/proofs/Lib.antt").write_text("pub mod Cases\n")
+    (folder / "cases/proofs/Cases.antt").write_text(text)
+    subprocess.run([ROOT / "scripts/built.sh", *CRATES], check=True)
+    return subprocess.run([ROOT / "scripts/over_proved.sh", "check", folder / "cases", "cases", " ".join(CRATES)], capture_output=True, text=True)
 
 
 def main():
@@ -98,21 +109,7 @@ def main():
     head = HEAD.replace("SEVERAL", ", ".join(SEVERAL)).replace("USAGES", ", ".join(USAGES))
     text = head + "".join(statement(n, case) for n, case in enumerate(cases))
     with tempfile.TemporaryDirectory() as folder:
-        crates = pathlib.Path(folder) / "crates"
-        for name in ("model", "abstract_store", "acts"):
-            for part in ("src", "specs"):
-                shutil.copytree(ROOT / "crates" / name / part, crates / name / part)
-        proofs = crates / "model/proofs"
-        proofs.mkdir()
-        shutil.copy(ROOT / "crates/model/proofs/examples/Computing.antt", proofs)
-        (proofs / "Lib.antt").write_text("pub mod Computing\n")
-        for part in ("src", "proofs"):
-            (crates / "cases" / part).mkdir(parents=True)
-        (crates / "cases/src/lib.rt").write_text("// cases\n")
-        (crates / "cases/proofs/Lib.antt").write_text("pub mod Cases\n")
-        (crates / "cases/proofs/Cases.antt").write_text(text)
-        (pathlib.Path(folder) / "crates.txt").write_text("model:\nabstract_store: model\nacts: abstract_store model\ncases: abstract_store acts model\n")
-        told = subprocess.run(["rt", "check", "cases"], cwd=folder, capture_output=True, text=True)
+        told = checked(pathlib.Path(folder), text)
     answers = collections.Counter(f"{case['call']} {case['code']}" for case in cases)
     if told.returncode != 0:
         print(told.stdout[-3000:], told.stderr[-3000:], sep="\n")

@@ -10,7 +10,7 @@ import subprocess
 import sys
 import tempfile
 
-RLIB = os.path.abspath('target/rlib')
+RLIB = os.path.abspath('crates')
 DIST = 'dist/kagutin.c'
 ARCHIVE = 'target/staticlib/libkagutin.a'
 WORDS = sys.argv[1:]        # of the generator, as make/port.mk has them
@@ -30,18 +30,18 @@ def replaced(text, old, new):
 
 def edited(folder, function, old, new):
     """A folder of proved crates in which one form of one function is another."""
-    crate = function.split('::')[0] + '.rlib'
+    crate = function.split('::')[0]
     for name in os.listdir(RLIB):
         if name != crate:
             os.symlink(os.path.join(RLIB, name), os.path.join(folder, name))
-    toolchain = os.path.join(folder, crate, 'toolchain')
-    os.makedirs(toolchain)
-    with open(os.path.join(RLIB, crate, 'toolchain', 'mir.json'), encoding='utf-8') as handle:
+    toolchain = os.path.join(crate, 'out', 'rlib', crate + '.rlib', 'toolchain')
+    os.makedirs(os.path.join(folder, toolchain))
+    with open(os.path.join(RLIB, toolchain, 'mir.json'), encoding='utf-8') as handle:
         forms = json.load(handle)
     for pair in forms:
         if pair[0] == function:
             pair[1] = json.loads(replaced(json.dumps(pair[1]), old, new))
-    with open(os.path.join(toolchain, 'mir.json'), 'w', encoding='utf-8') as handle:
+    with open(os.path.join(folder, toolchain, 'mir.json'), 'w', encoding='utf-8') as handle:
         json.dump(forms, handle)
     return folder
 
@@ -52,11 +52,15 @@ EDITS = [
     ('base_areas::lengths::log_right', '{"Int": 64}', '{"Int": 128}', 'base_areas::lengths::log_right: type {"Int": 128}'),
     ('base_areas::lengths::log_right', '{"Int": 64}', '{"Float": 64}', 'base_areas::lengths::log_right: type {"Float": 64}'),
     ('base_areas::lengths::log_right', '"Return"', '"Abort"', 'base_areas::lengths::log_right: statement'),
-    ('base_areas::lengths::log_right', '"Direct": "base_areas::lengths::log_groups"', '"Direct": "base_areas::lengths::log_right"', 'recursion'),
-    ('base_areas::lengths::log_right', '"Direct": "base_areas::lengths::log_groups"', '"Direct": "base_areas::lengths::other"', 'no proved function'),
-    ('base_areas::lengths::log_right', '"Direct": "base_areas::lengths::log_groups"', '"Direct": "nowhere::other"', 'no proved program'),
+    ('base_areas::lengths::log_right', '"Fn": ["base_areas::lengths::log_groups"', '"Fn": ["base_areas::lengths::log_right"', 'recursion'),
+    ('base_areas::lengths::log_right', '"Fn": ["base_areas::lengths::log_groups"', '"Fn": ["base_areas::lengths::other"', 'no proved function'),
+    ('base_areas::lengths::log_right', '"Fn": ["base_areas::lengths::log_groups"', '"Fn": ["nowhere::other"', 'no proved program'),
+    ('base_areas::lengths::log_right', '"types": [], "dicts"', '"types": [{"Int": 8}], "dicts"', 'base_areas::lengths::log_right: statement'),
     ('base_codec::blocks::clear', '{"Deref": {"Int": 8}}', '{"Deref": {"Int": 16}}', 'base_codec::blocks::clear: memory of'),
-    ('base_codec::marks::put_fence_mark', '"MemorySlot"', '"ValueLocal"', 'base_codec::marks::put_fence_mark: the address of value local'),
+    ('base_codec::marks::put_fence_mark', '"values": [70, 78]', '"values": [70, 78, 79]', 'base_codec::marks::put_fence_mark: a constant of 8 bits'),
+    ('base_codec::marks::has_header_mark', '"ty": "Bool"', '"ty": "Ptr"', 'base_codec::marks::has_header_mark: a constant lent in a function whose result'),
+    ('base_codec::marks::has_header_mark', '{"AddrOf": {"local": 3', '{"AddrOf": {"local": 1', 'base_codec::marks::has_header_mark'),
+    ('base_writers::places::begun', '"MemorySlot"', '"ValueLocal"', 'base_writers::places::begun: the address of value local'),
     ('base_bitmap::ones', '"CountOnes"', '"ReverseBits"', 'base_bitmap::ones: operation'),
 ]
 
