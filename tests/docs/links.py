@@ -14,7 +14,7 @@ ENDINGS = ('antt', 'c', 'edit', 'h', 'html', 'in', 'md', 'mk', 'py', 'rs', 'rt',
 LINK = re.compile(r'\[[^\]]*\]\(([^)\s]+)\)')
 TICKED = re.compile(r'`([^`\n]+)`')
 PATH = re.compile(r'[\w.*-]+(?:/[\w.*{},-]+)*/?')
-MADE = ('target/', 'rust/target/', 'build/')
+MADE = ('target/', 'rust/target/', 'build/', 'crates/*/out/')
 
 
 def tracked():
@@ -74,7 +74,7 @@ class Tree:
 
 def example(word):
     """Files of a user's, which the texts make up, names with a part left open, and files of the kit."""
-    return word.startswith(('Mir/', 'Prog/')) or 'NAME' in word or 'UNIT' in word or word in ('program.c', 'table.txt', 'mode.txt', 'TABLE.txt', 'mir.json', 'page.html', 'crates.txt')
+    return word.startswith(('Mir/', 'Prog/')) or 'NAME' in word or 'UNIT' in word or word in ('program.c', 'table.txt', 'mode.txt', 'TABLE.txt', 'mir.json', 'page.html', 'crates.txt', 'port.py')
 
 
 def words(file, text):
