@@ -1,4 +1,6 @@
 // Calls on several homes that read: fetch and revise, and the questions that each such call puts first.
+#![tactic(auto)]
+
 mod allowed;
 mod fetches;
 mod questions;

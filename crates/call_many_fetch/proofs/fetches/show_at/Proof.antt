@@ -5,29 +5,29 @@ use native.Mathlib.Omega.{arith}
 use Rattle.call_many_fetch.proofs.fetches.show_at.Statement.{statement}
 use Rattle.call_many_fetch.proofs.fetches.show_at.Tie as tie
 
-add-show : tie.Need-overflow-add-show
+add-show : tie.Need-overflow_add-at
 add-show c = search rules
 
-sub-show : tie.Need-overflow-sub-show
+sub-show : tie.Need-slice_bounds-show-count
 sub-show c = search rules
 
-part-show-start : tie.Need-slice-bounds-show-start
+part-show-start : tie.Need-slice_bounds-show-start
 part-show-start c = search rules
 
-part-show-end : tie.Need-slice-bounds-show-end
+part-show-end : tie.Need-slice_bounds-show-end
 part-show-end c = search rules
 
 show-requires : tie.Need-show-requires
 show-requires c κs = search rules
 
-same_length : tie.Need-same-length
+same_length : tie.Need-shape_of-blocks
 same_length c = search rules
 
 returns : tie.Need-returns
 returns c =
-    shown-at _ _ _ _ c.before.before.before.before.before.before.before.before.before.args.blocks.now _ _ c.before.before.before.before.before.before.before.before.before.args.at _ _ c.before.before.show.ensures (omega (arith, c.before.before.show.auto)) c.before.before.before.before.before.before.before.before.before.requires.1
+    shown-at _ _ _ _ c.args.blocks.now _ _ c.args.at _ _ c.show.ensures (omega (arith, c.show.auto)) c.requires.1
 
-pub show-at-spec : {M : Type 1} → statement M
-show-at-spec =
+pub show_at_spec : {M : Type 1} → statement M
+show_at_spec =
     tie.close
     (tie.spec add-show sub-show part-show-start part-show-end show-requires same_length returns)

@@ -4,13 +4,13 @@ use native.Mathlib.Omega.{arith}
 use Rattle.call_many_fetch.proofs.questions.homes_known.Statement.{statement}
 use Rattle.call_many_fetch.proofs.questions.homes_known.Tie as tie
 
-returns : tie.Need-returns
+returns : tie.Need-returns-then-home-homes
 returns c =
-    homes-past c.before.args.home c.before.args.n c.before.args.homes (omega arith)
+    homes-past c.args.home c.args.n c.args.homes (omega arith)
 
-returns-2 : tie.Need-returns-2
+returns-2 : tie.Need-returns
 returns-2 c =
-    homes-left c.before.args.home c.before.args.n c.before.args.homes (omega arith)
+    homes-left c.args.home c.args.n c.args.homes (omega arith)
 
-pub homes-known-spec : {M : Type 1} → statement M
-homes-known-spec = tie.close (tie.spec returns returns-2)
+pub homes_known_spec : {M : Type 1} → statement M
+homes_known_spec = tie.close (tie.spec returns returns-2)
