@@ -7,7 +7,7 @@ use Rattle.model.specs.Calls.{begin_call, store_call, commit_call, flush_call, s
 use Rattle.call_ask.specs.Lent.{lent_all, leaves_everything, lent, leaves}
 use Rattle.prog_lines.specs.declared.Line.{Line}
 use Rattle.prog_lines.specs.declared.Line.TheVariants.{Begin, Store, Commit, Flush, Settle, Trim, Malformed}
-use Rattle.prog_script.specs.Call.{Memory, memory, Does}
+use Rattle.prog_script.specs.Call.{memory, Does}
 
 module _ (asked : Line) (code figure size : ℕ) (log area state newest batch log₂ area₂ state₂ newest₂ batch₂ : List ℕ) where
   pub does-begin : (w : ℕ) → asked ≡ Begin w
