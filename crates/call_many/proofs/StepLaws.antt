@@ -6,9 +6,8 @@ use mathlib.Core.List.{List}
 use Prim.Native.Nat.{ℕ, zero, suc, ◌+◌, ◌*◌, ◌-◌, ◌≤◌, ◌<◌}
 use native.Mathlib.Omega.{arith}
 use lib.ListN.{length, take, drop}
-use Rattle.model.specs.Bytes.{part, puts}
+use Rattle.model.specs.Bytes.{part}
 use Rattle.model.specs.Batch.{batch_bytes}
-use Rattle.model.specs.declared.State.{State}
 use Rattle.model.specs.declared.Writer.{Writer}
 use Rattle.model.specs.State.{state_of, next_position, writer_of, set_writer, set_held, begun, holding, holds}
 use Rattle.model.specs.Effects.{Given}
@@ -17,7 +16,7 @@ use Rattle.model_laws.proofs.state.WriterLaws.{writer-set_writer, fits-begun}
 use Rattle.call_ask.specs.Lent.{lent_all}
 use Rattle.call_store.specs.Logs.{MayLog, Fits, StoredOther}
 use Rattle.acts.specs.Many.{stored_first}
-use Rattle.call_many.specs.Steps.{Several, BatchRoom, Stored, Reached, Under}
+use Rattle.call_many.specs.Steps.{Several, BatchRoom, Under}
 use Rattle.acts.proofs.StoredLaws.{stored}
 use Rattle.call_many.proofs.StoredLaws.{may-log, stored-reached, stored-first}
 

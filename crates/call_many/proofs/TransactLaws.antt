@@ -1,21 +1,21 @@
 -- Transact: its answer and how it ends. Assumes nothing.
-use mathlib.Core.Path.{◌≡◌, refl, sym, ap, ◌∙◌, subst}
+use mathlib.Core.Path.{◌≡◌, refl, sym, ap, ◌∙◌}
 use mathlib.Core.Bool.{Bool, true, false, cond, not}
 use mathlib.Core.List.{List, [], ◌++◌}
-use mathlib.Core.Logic.{◌≢◌, ◌⊎◌, inl, inr, ⊎_elim}
-use Prim.Native.Nat.{ℕ, zero, suc, ◌+◌, ◌-◌, ◌*◌, ◌/◌, ◌^◌, ◌≤◌, ◌<◌}
+use mathlib.Core.Logic.{◌≢◌, ⊎_elim}
+use Prim.Native.Nat.{ℕ, suc, ◌+◌, ◌-◌, ◌*◌, ◌/◌, ◌≤◌, ◌<◌}
 use native.Mathlib.Omega.{arith}
-use borrow.Author.Tests.{leb-true, le-leb, lt-leb, not-true, not-false}
+use borrow.Author.Tests.{leb-true, le-leb, not-true, not-false}
 use lib.Dec.{leb}
 use lib.ListN.{length}
 use Rattle.model.specs.Bytes.{puts}
 use Rattle.model.specs.Layout.{group_count, home_count}
-use Rattle.model.specs.Batch.{Record, batch_bytes}
+use Rattle.model.specs.Batch.{batch_bytes}
 use Rattle.model.specs.declared.State.{State}
 use Rattle.model.specs.declared.Writer.{Writer}
 use Rattle.model.specs.State.{state_of, next_position, places, free_places, writer_of, held_of, is_open_now, first_for, count_for}
 use Rattle.model.specs.Tag.{closing_word}
-use Rattle.model.specs.Effects.{Given, Effect, Logged, logged, link_from, log_closing, tags_of, live_base, kept_commit, commit_held, commit_effect}
+use Rattle.model.specs.Effects.{Given, Effect, Logged, logged, link_from, log_closing, tags_of, live_base, kept_commit, commit_held}
 use Rattle.model.specs.Questions.{ask, areas_right, state_right, newest_right, state_in_order, writer_known, writer_open, batch_fits}
 use Rattle.model.specs.Calls.{size_of, outcome}
 use Rattle.model_laws.proofs.bytes.ByteLaws.{length-puts}
@@ -24,9 +24,9 @@ use Rattle.call_ask.specs.Lent.{lent_all, leaves_everything}
 use Rattle.call_ask.proofs.AnswerLaws.{Usable, refused-by, done-by}
 use Rattle.call_store.specs.Logs.{MayLog, Fits}
 use Rattle.call_commit.specs.Closings.{logged_closing, kept_under, Committed}
-use Rattle.call_commit.proofs.CommitLaws.{effect-held, kept-list}
+use Rattle.call_commit.proofs.CommitLaws.{kept-list}
 use Rattle.acts.specs.Many.{blocks_lent, blocks_right, homes_known, lent_on, and_then, stored_first, transact_effect, ask_homes, all_of, may_store_all, room_for_all, transact_answer, transact_call}
-use Rattle.call_many.specs.Steps.{Several, BatchRoom, Moved, Stored, Reached}
+use Rattle.call_many.specs.Steps.{Several, BatchRoom, Stored, Reached}
 use Rattle.call_many_fetch.proofs.AllowedLaws.{read-list-same, store_test}
 use Rattle.acts.proofs.StoredLaws.{sizes-more}
 use Rattle.acts.proofs.TransactedLaws.{closed, last-store, effect_is, size_is}

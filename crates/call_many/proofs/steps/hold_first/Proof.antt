@@ -9,32 +9,32 @@ use Rattle.call_many.proofs.steps.hold_first.Tie as tie
 begin-requires : tie.Need-begin-requires
 begin-requires c κs = search rules
 
-writer-requires : tie.Need-writer-requires
+writer-requires : tie.Need-writer-r-requires
 writer-requires c κs = search rules
 
-sub-store-first : tie.Need-overflow-sub-store-first
+sub-store-first : tie.Need-slice_bounds-store_first-count
 sub-store-first c = search rules
 
-part-store-first-start : tie.Need-slice-bounds-store-first-start
+part-store-first-start : tie.Need-slice_bounds-store_first-start
 part-store-first-start c = search rules
 
-part-store-first-end : tie.Need-slice-bounds-store-first-end
+part-store-first-end : tie.Need-slice_bounds-store_first-end
 part-store-first-end c = search rules
 
-store-first-requires : tie.Need-store-first-requires
+store-first-requires : tie.Need-store_first-requires
 store-first-requires c κs =
-    let p = c.before.before.before.before.before.before.before.before.before.before.requires in
-    (omega arith, p.1, first-size c.before.before.before.before.before.before.before.before.before.before.args.blocks.now p.2, begun-holds _ _ _ _ p.0 p.1 c.before.before.before.before.before.before.begin.ensures c.before.before.writer.ensures)
+    let p = c.requires in
+    (omega arith, p.1, first-size c.args.blocks.now p.2, begun-holds _ _ _ _ p.0 p.1 c.begin.ensures c.writer-r.ensures)
 
-same_length : tie.Need-same-length
+same_length : tie.Need-shape_of-state
 same_length c = search rules
 
 returns : tie.Need-returns
 returns c =
-    c.before.before.store-first.ensures ∙ rw (c.before.before.before.before.before.before.before.before.before.begin.ensures, lent-part c.before.before.before.before.before.before.before.before.before.before.before.before.before.args.blocks.now 0 64 (omega arith))
+    c.store_first.ensures ∙ rw (c.begin.ensures, lent-part c.args.blocks.now 0 64 (omega arith))
 
-pub hold-first-spec : {M : Type 1} → statement M
-hold-first-spec =
+pub hold_first_spec : {M : Type 1} → statement M
+hold_first_spec =
     tie.close
     (tie.spec
     begin-requires
