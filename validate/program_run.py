@@ -241,7 +241,7 @@ class ProgramRun(Run):
         (at, pointer), (_, _, count) = self.locate(state, place)[0][:2], shape
         if at != 'memory':
             raise Refused('the program has an array as a value')
-        if kind == 'Repeat' and content[1] == count:
+        if kind == 'Repeat' and content[1] == {'Lit': count}:
             state.memory = filled(state.memory, pointer, count, self.operand(state, content[0])[0])
         elif kind == 'Aggregate' and len(content) == count:
             for value in [self.operand(state, part)[0] for part in content]:

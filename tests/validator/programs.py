@@ -302,6 +302,28 @@ def by_width(rng):
     return w.form()
 
 
+def lending(rng):
+    """Constants that are lent, one in a branch: each is read at an item that the parameter chooses."""
+    w = Writer(rng, U64, [U64])
+
+    def item_of(constant, width, count):
+        t = {'Array': [{'Int': width}, {'Lit': count}]}
+        local = w.local({'Ref': ['Erased', 'Imm', t]})
+        w.out.append(('LendStatic', place(local), t, constant))
+        first = w.let({'Ref': ['Erased', 'Imm', {'Int': width}]}, {'AddrOf': place(local, {'Deref': {'Int': width}})})
+        at = w.binary({'Mul': 'Unsigned'}, w.masked(copy(1), count - 1), number(width // 8))
+        item = w.let('Ptr', {'Op2': ['Offset', first, at]})['Copy']['local']
+        return w.cast(copy(item, {'Deref': {'Int': width}}), 'Unsigned', 'Unsigned', 64)
+
+    def ints(width, count):
+        return {'Ints': {'width': width, 'values': [rng.getrandbits(width) for _ in range(count)]}}, width, count
+    test = w.binary({'Lt': 'Unsigned'}, w.masked(copy(1), 255), number(100), 'Bool')
+    w.out.append(('If', test, w.within(lambda: w.give(w.binary('Xor', item_of(*ints(16, 2)), copy(1)))), []))
+    same = {'Repeat': [number(rng.getrandbits(8), 8), 8]}, 8, 8
+    w.give(w.binary('Or', item_of(*same), w.binary('Shl', item_of(*ints(8, 4)), number(8))))
+    return w.form()
+
+
 def exported(rng):
     w = Writer(rng, U64, [U64, U64, BYTES])
     w.variables = [w.let(U64, {'Opd': x})['Copy']['local'] for x in (copy(1), copy(2), number(rng.getrandbits(8)), number(1))]
@@ -314,6 +336,7 @@ def exported(rng):
     w.statements(0, 8)
     w.out.append(('Assign', place(w.variables[2]), {'Opd': w.call('branch', [copy(w.variables[1])])}))
     w.out.append(('Assign', place(w.variables[3]), {'Opd': w.call('crossed', [copy(3), copy(1), copy(w.variables[0])])}))
+    w.out.append(('Assign', place(w.variables[1]), {'Op2': ['Xor', copy(w.variables[1]), w.call('lending', [copy(w.variables[0])])]}))
     for local in w.variables[1:]:
         w.out.append(('Assign', place(w.variables[0]), {'Op2': ['Xor', copy(w.variables[0]), copy(local)]}))
     w.give(copy(w.variables[0]))
@@ -324,7 +347,8 @@ def write_program(folder, seed):
     """A crate `random` as the prover would leave it, its source and its header. Gives the generator's words for it."""
     rng = random.Random(seed)
     forms = [[f'random::get_{size}', getter(rng, size)] for size in (1, 2, 4, 8)] + [[f'random::put_{size}', putter(rng, size)] for size in (1, 2, 4, 8)]
-    forms += [['random::short', short(rng)], ['random::branch', branch(rng)], ['random::crossed', crossed(rng)], ['random::by_width', by_width(rng)]]
+    forms += [['random::short', short(rng)], ['random::branch', branch(rng)], ['random::crossed', crossed(rng)], ['random::by_width', by_width(rng)],
+              ['random::lending', lending(random.Random(seed))]]
     forms += [[f'random::call_{k}', exported(rng)] for k in range(EXPORTED)]
     for part in ('crates/random/out/rlib/random.rlib/toolchain', 'crates/random/src'):
         os.makedirs(os.path.join(folder, part), exist_ok=True)
