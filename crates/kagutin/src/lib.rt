@@ -1,4 +1,6 @@
 // The calls of the store as C sees them: each is the proved call of its crate under an exported name.
+#![tactic(auto)]
+
 ghost use Rattle.std.specs.Prelude.{◌≡◌, []};
 ghost use Rattle.model.specs.Calls.{format_call, open_call, begin_call, reserve_call, abort_call, store_call, commit_call, flush_call, confirm_call, settle_call, trim_call, read_call, begin_round_call, step_round_call};
 ghost use Rattle.acts.specs.Many.{fetch_call, revise_call, transact_call};
