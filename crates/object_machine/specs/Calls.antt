@@ -1,5 +1,5 @@
 -- The store's calls by number, as the machine makes them. What a call is not lent stays as it is.
-use Rattle.std.specs.Prelude.{ℕ, ◌-◌, ◌^◌, cond, List, [], eqb}
+use Rattle.std.specs.Prelude.{ℕ, ◌-◌, ◌^◌, cond, [], eqb}
 use Rattle.model.specs.Effects.{Given}
 use Rattle.model.specs.Calls.{Outcome, refused, open_call, reserve_call, store_call, commit_call, flush_call, confirm_call, settle_call, trim_call, begin_round_call, step_round_call}
 use Rattle.call_ask.specs.Lent.{lent_all, leaves_everything, lent}

@@ -2,7 +2,7 @@
 use Rattle.std.specs.Prelude.{ℕ, zero, suc, cond, List, [], ◌∷◌, eqb}
 use Rattle.model.specs.Bytes.{part, puts, zeros}
 use Rattle.model.specs.Crash.{Memory}
-use Rattle.model.specs.History.{World, empty_store}
+use Rattle.model.specs.History.{empty_store}
 use Rattle.model.specs.examples.Trials.{lane, fill, positions}
 use Rattle.object_machine.specs.Control.{Turn}
 use Rattle.object_machine.specs.Next.{Lent, lent_to, Left, Asked, next_call, ask_call, init_call, begin_turn, read_turn}
