@@ -10,40 +10,37 @@ use Rattle.unit_bands.proofs.kagutin_bands_look_up.Tie as tie
 refused-requires : tie.Need-refused-requires
 refused-requires c κs = search rules
 
-returns : tie.Need-returns
+returns : tie.Need-returns-then-mm-ge-DEPTHS
 unfolding depths
-returns c = look-deep _ _ _ c.before.if1.true c.refused.ensures
+returns c = look-deep _ _ _ c.if-mm-ge-DEPTHS.true c.refused.ensures
 
-slice-aggregate-kagutin-fetch : tie.Need-slice-aggregate-kagutin-fetch
+slice-aggregate-kagutin-fetch : tie.Need-slice_bounds-kagutin_fetch-end
 slice-aggregate-kagutin-fetch c = search rules
 
-kagutin-fetch-requires : tie.Need-kagutin-fetch-requires
+kagutin-fetch-requires : tie.Need-kagutin_fetch-read-requires
 kagutin-fetch-requires c κs = search rules
 
-refused-requires-2 : tie.Need-refused-requires-2
+refused-requires-2 : tie.Need-refused-requires-then-read-ne0
 refused-requires-2 c κs = search rules
 
-returns-2 : tie.Need-returns-2
+returns-2 : tie.Need-returns-then-read-ne0
 unfolding zeros depths
 returns-2 c =
-    let r = c.before.before.before.before in
-    look-unread _ _ _ r.before.before.if1.false _ _ _ _ _ refl r.kagutin-fetch.ensures c.before.if2.true c.refused2.ensures
+    look-unread _ _ _ c.if-mm-ge-DEPTHS.false _ _ _ _ _ refl c.kagutin_fetch-read.ensures c.if-read-ne0.true c.refused-then-read-ne0.ensures
 
-slice-aggregate-look-up : tie.Need-slice-aggregate-look-up
+slice-aggregate-look-up : tie.Need-slice_bounds-look_up-end
 slice-aggregate-look-up c = search rules
 
-look-up-requires : tie.Need-look-up-requires
+look-up-requires : tie.Need-look_up-found-requires
 look-up-requires c κs = search rules
 
-returns-3 : tie.Need-returns-3
+returns-3 : tie.Need-returns
 unfolding zeros depths
 returns-3 c =
-    let i = c.before.before in
-    let r = i.before.before.before in
-    look-read _ _ _ r.before.before.if1.false _ _ _ _ _ refl r.kagutin-fetch.ensures i.if2.false c.look_up.ensures
+    look-read _ _ _ c.if-mm-ge-DEPTHS.false _ _ _ _ _ refl c.kagutin_fetch-read.ensures c.if-read-ne0.false c.look_up-found.ensures
 
-pub kagutin-bands-look-up-spec : {M : Type 1} → statement M
-kagutin-bands-look-up-spec =
+pub kagutin_bands_look_up_spec : {M : Type 1} → statement M
+kagutin_bands_look_up_spec =
     tie.close
     (tie.spec
     refused-requires

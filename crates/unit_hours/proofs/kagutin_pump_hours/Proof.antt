@@ -7,46 +7,43 @@ use borrow.Author.Rules.{rules}
 use Rattle.unit_hours.proofs.kagutin_pump_hours.Statement.{statement}
 use Rattle.unit_hours.proofs.kagutin_pump_hours.Tie as tie
 
-no-hours-requires : tie.Need-no-hours-requires
+no-hours-requires : tie.Need-no_hours-requires
 no-hours-requires c κs = search rules
 
-returns : tie.Need-returns
-returns c = hours-unknown _ _ _ c.before.if1.true c.no-hours.ensures
+returns : tie.Need-returns-then-pump-gt-LAST_PUMP
+returns c = hours-unknown _ _ _ c.if-pump-gt-LAST_PUMP.true c.no_hours.ensures
 
-slice-aggregate-kagutin-fetch : tie.Need-slice-aggregate-kagutin-fetch
+slice-aggregate-kagutin-fetch : tie.Need-slice_bounds-kagutin_fetch-end
 slice-aggregate-kagutin-fetch c = search rules
 
-add-kagutin-fetch : tie.Need-overflow-add-kagutin-fetch
+add-kagutin-fetch : tie.Need-overflow_add-pump
 add-kagutin-fetch c = search rules
 
-kagutin-fetch-requires : tie.Need-kagutin-fetch-requires
+kagutin-fetch-requires : tie.Need-kagutin_fetch-read-requires
 kagutin-fetch-requires c κs = search rules
 
-no-hours-requires-2 : tie.Need-no-hours-requires-2
+no-hours-requires-2 : tie.Need-no_hours-requires-then-read-ne0
 no-hours-requires-2 c κs = search rules
 
-returns-2 : tie.Need-returns-2
+returns-2 : tie.Need-returns-then-read-ne0
 unfolding zeros
 returns-2 c =
-    let r = c.before.before.before.before in
-    hours-unread _ _ _ (omega (arith, r.before.before.if1.false)) _ _ _ _ _ refl r.kagutin-fetch.ensures c.before.if2.true
-    c.no-hours2.ensures
+    hours-unread _ _ _ (omega (arith, c.if-pump-gt-LAST_PUMP.false)) _ _ _ _ _ refl c.kagutin_fetch-read.ensures c.if-read-ne0.true
+    c.no_hours-then-read-ne0.ensures
 
-slice-aggregate-read : tie.Need-slice-aggregate-read
+slice-aggregate-read : tie.Need-slice_bounds-read-end
 slice-aggregate-read c = search rules
 
-read-requires : tie.Need-read-requires
+read-requires : tie.Need-read-p-requires
 read-requires c κs = search rules
 
-returns-3 : tie.Need-returns-3
+returns-3 : tie.Need-returns
 unfolding zeros
 returns-3 c =
-    let i = c.before.before in
-    let r = i.before.before.before in
-    hours-read _ _ _ (omega (arith, r.before.before.if1.false)) _ _ _ _ _ refl r.kagutin-fetch.ensures i.if2.false c.read.ensures.0
+    hours-read _ _ _ (omega (arith, c.if-pump-gt-LAST_PUMP.false)) _ _ _ _ _ refl c.kagutin_fetch-read.ensures c.if-read-ne0.false c.read-p.ensures.0
 
-pub kagutin-pump-hours-spec : {M : Type 1} → statement M
-kagutin-pump-hours-spec =
+pub kagutin_pump_hours_spec : {M : Type 1} → statement M
+kagutin_pump_hours_spec =
     tie.close
     (tie.spec
     no-hours-requires

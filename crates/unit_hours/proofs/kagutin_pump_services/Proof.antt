@@ -5,33 +5,31 @@ use borrow.Author.Rules.{rules}
 use Rattle.unit_hours.proofs.kagutin_pump_services.Statement.{statement}
 use Rattle.unit_hours.proofs.kagutin_pump_services.Tie as tie
 
-no-services-requires : tie.Need-no-services-requires
+no-services-requires : tie.Need-no_services-requires
 no-services-requires c κs = search rules
 
-returns : tie.Need-returns
-returns c = services-none _ _ _ _ c.before.if1.true c.no-services.ensures
+returns : tie.Need-returns-then-interval-eq0
+returns c = services-none _ _ _ _ c.if-interval-eq0.true c.no_services.ensures
 
-kagutin-pump-hours-requires : tie.Need-kagutin-pump-hours-requires
+kagutin-pump-hours-requires : tie.Need-kagutin_pump_hours-hours-requires
 kagutin-pump-hours-requires c κs = search rules
 
-no-services-requires-2 : tie.Need-no-services-requires-2
+no-services-requires-2 : tie.Need-no_services-requires-then-hours-ne0
 no-services-requires-2 c κs = search rules
 
-returns-2 : tie.Need-returns-2
+returns-2 : tie.Need-returns-then-hours-ne0
 returns-2 c =
-    let h = c.before.before.before in
-    services-unread _ _ _ _ (omega (arith, h.before.if1.false)) _ h.kagutin-pump-hours.ensures c.before.if2.true c.no-services2.ensures
+    services-unread _ _ _ _ (omega (arith, c.if-interval-eq0.false)) _ c.kagutin_pump_hours-hours.ensures c.if-hours-ne0.true c.no_services-then-hours-ne0.ensures
 
-services-requires : tie.Need-services-requires
+services-requires : tie.Need-services-d-requires
 services-requires c κs = search rules
 
-returns-3 : tie.Need-returns-3
+returns-3 : tie.Need-returns
 returns-3 c =
-    let h = c.before.before.before in
-    services-read _ _ _ _ (omega (arith, h.before.if1.false)) _ h.kagutin-pump-hours.ensures c.before.if2.false c.services.ensures
+    services-read _ _ _ _ (omega (arith, c.if-interval-eq0.false)) _ c.kagutin_pump_hours-hours.ensures c.if-hours-ne0.false c.services-d.ensures
 
-pub kagutin-pump-services-spec : {M : Type 1} → statement M
-kagutin-pump-services-spec =
+pub kagutin_pump_services_spec : {M : Type 1} → statement M
+kagutin_pump_services_spec =
     tie.close
     (tie.spec
     no-services-requires

@@ -11,76 +11,72 @@ use Rattle.unit_hours.proofs.kagutin_pump_start.Tie as tie
 refused-requires : tie.Need-refused-requires
 refused-requires c κs = search rules
 
-returns : tie.Need-returns
+returns : tie.Need-returns-then-pump-gt-LAST_PUMP
 returns c =
     let d = c.refused.ensures in
-    event-unknown _ _ _ _ c.before.if1.true d.0 d.1 d.2
+    event-unknown _ _ _ _ c.if-pump-gt-LAST_PUMP.true d.0 d.1 d.2
 
-add-home : tie.Need-overflow-add-home
+add-home : tie.Need-overflow_add-home
 add-home c = search rules
 
-slice-aggregate-kagutin-revise : tie.Need-slice-aggregate-kagutin-revise
+slice-aggregate-kagutin-revise : tie.Need-slice_bounds-kagutin_revise-end
 slice-aggregate-kagutin-revise c = search rules
 
-kagutin-revise-requires : tie.Need-kagutin-revise-requires
+kagutin-revise-requires : tie.Need-kagutin_revise-read-requires
 kagutin-revise-requires c κs = search rules
 
-refused-requires-2 : tie.Need-refused-requires-2
+refused-requires-2 : tie.Need-refused-requires-then-read-ne0
 refused-requires-2 c κs = search rules
 
-same_length : tie.Need-same-length
+same_length : tie.Need-shape_of-log-then-read-ne0
 same_length c = search rules
 
-same-length-2 : tie.Need-same-length-2
+same-length-2 : tie.Need-shape_of-state-then-read-ne0
 same-length-2 c = search rules
 
-same-length-3 : tie.Need-same-length-3
+same-length-3 : tie.Need-shape_of-newest-then-read-ne0
 same-length-3 c = search rules
 
-returns-2 : tie.Need-returns-2
+returns-2 : tie.Need-returns-then-read-ne0
 unfolding zeros
 returns-2 c =
-    let d = c.refused2.ensures in
-    let r = c.before.before.before.before in
-    event-known _ _ _ _ (omega (arith, r.before.before.before.before.before.if1.false))
-    (event-unread _ _ _ _ _ _ _ _ _ refl _ r.kagutin-revise.ensures c.before.if2.true d.0 d.1 d.2)
+    let d = c.refused-then-read-ne0.ensures in
+    event-known _ _ _ _ (omega (arith, c.if-pump-gt-LAST_PUMP.false))
+    (event-unread _ _ _ _ _ _ _ _ _ refl _ c.kagutin_revise-read.ensures c.if-read-ne0.true d.0 d.1 d.2)
 
-slice-aggregate-start : tie.Need-slice-aggregate-start
+slice-aggregate-start : tie.Need-slice_bounds-start-end
 slice-aggregate-start c = search rules
 
-start-requires : tie.Need-start-requires
+start-requires : tie.Need-start-code-requires
 start-requires c κs = search rules
 
-slice-aggregate-finish : tie.Need-slice-aggregate-finish
+slice-aggregate-finish : tie.Need-slice_bounds-finish-end
 slice-aggregate-finish c = search rules
 
 finish-requires : tie.Need-finish-requires
 finish-requires c κs = search rules
 
-same-length-4 : tie.Need-same-length-4
+same-length-4 : tie.Need-shape_of-log
 same-length-4 c = search rules
 
-same-length-5 : tie.Need-same-length-5
+same-length-5 : tie.Need-shape_of-state
 same-length-5 c = search rules
 
-same-length-6 : tie.Need-same-length-6
+same-length-6 : tie.Need-shape_of-newest
 same-length-6 c = search rules
 
-same-length-7 : tie.Need-same-length-7
+same-length-7 : tie.Need-shape_of-batch
 same-length-7 c = search rules
 
-returns-3 : tie.Need-returns-3
+returns-3 : tie.Need-returns
 unfolding zeros
 returns-3 c =
-    let f = c.before.before.before.before.before.before.before.before in
-    let s = f.before.before.before.before.before.before.before in
-    let r = s.before.before.before.before.before in
-    event-known _ _ _ _ (omega (arith, r.before.before.before.before.before.if1.false))
-    (event-read _ _ _ _ _ _ _ _ _ refl _ r.kagutin-revise.ensures s.before.before.if2.false _ _ (judging _ _ s.start.ensures)
-    f.finish.ensures)
+    event-known _ _ _ _ (omega (arith, c.if-pump-gt-LAST_PUMP.false))
+    (event-read _ _ _ _ _ _ _ _ _ refl _ c.kagutin_revise-read.ensures c.if-read-ne0.false _ _ (judging _ _ c.start-code.ensures)
+    c.finish.ensures)
 
-pub kagutin-pump-start-spec : {M : Type 1} → statement M
-kagutin-pump-start-spec =
+pub kagutin_pump_start_spec : {M : Type 1} → statement M
+kagutin_pump_start_spec =
     tie.close
     (tie.spec
     refused-requires
