@@ -1,10 +1,10 @@
 -- The calls on alarms, question by question. Assumes nothing.
 use mathlib.Core.Path.{◌≡◌, ap, ◌∙◌}
-use mathlib.Core.Bool.{Bool, true, false, not}
+use mathlib.Core.Bool.{Bool, true, false}
 use mathlib.Core.List.{List, []}
 use mathlib.Core.Logic.{◌≢◌}
 use Prim.Native.Nat.{ℕ, ◌*◌}
-use borrow.Author.Tests.{ne_eqb, not-true, not-false}
+use borrow.Author.Tests.{ne_eqb}
 use Rattle.model.specs.Bytes.{zeros}
 use Rattle.call_ask.specs.Lent.{lent_all}
 use Rattle.acts.specs.Many.{fetch_call}
@@ -27,14 +27,14 @@ module _ (l : Lent) (writer : ℕ) where
   -- ---- events
 
   module _ (a : Alarm) (b : Bool) (k : b ≡ class_known a.class) where
-    pub arrival-unknown : not b ≡ true → {c f s : ℕ} → c ≡ 24 → f ≡ 0 → s ≡ 0
+    pub arrival-unknown : b ≡ false → {c f s : ℕ} → c ≡ 24 → f ≡ 0 → s ≡ 0
         → leaves c f s l.log l.area l.state l.newest l.batch ≡ arrive_call l writer a
     unfolding arrive_call
-    arrival-unknown n ec ef es = rw (← k, not-true b n) (refusal l 24 0 ec ef es)
+    arrival-unknown n ec ef es = rw (← k, n) (refusal l 24 0 ec ef es)
 
-    pub arrival-known : not b ≡ false → {x : UnitOutcome} → x ≡ event l writer alarm_home 6 (judge (arrival a)) → x ≡ arrive_call l writer a
+    pub arrival-known : b ≡ true → {x : UnitOutcome} → x ≡ event l writer alarm_home 6 (judge (arrival a)) → x ≡ arrive_call l writer a
     unfolding arrive_call
-    arrival-known n q = rw (← k, not-false b n) q
+    arrival-known n q = rw (← k, n) q
 
   pub any-clearing : (identity : ℕ) {x : UnitOutcome} → x ≡ event l writer alarm_home 6 (judge (clearing identity)) → x ≡ clear_call l writer identity
   unfolding clear_call

@@ -7,84 +7,78 @@ use borrow.Author.Rules.{rules}
 use Rattle.unit_alarms.proofs.kagutin_alarm_arrive.Statement.{statement}
 use Rattle.unit_alarms.proofs.kagutin_alarm_arrive.Tie as tie
 
-class-known-requires : tie.Need-class-known-requires
+class-known-requires : tie.Need-class_known-requires
 class-known-requires c κs = search rules
 
 refused-requires : tie.Need-refused-requires
 refused-requires c κs = search rules
 
-returns : tie.Need-returns
+returns : tie.Need-returns-then-not-class_known
 returns c =
     let d = c.refused.ensures in
-    arrival-unknown _ _ _ _ c.before.before.class-known.ensures c.before.if1.true d.0 d.1 d.2
+    arrival-unknown _ _ _ _ c.class_known.ensures c.if-not-class_known.true d.0 d.1 d.2
 
-slice-aggregate-kagutin-revise : tie.Need-slice-aggregate-kagutin-revise
+slice-aggregate-kagutin-revise : tie.Need-slice_bounds-kagutin_revise-end
 slice-aggregate-kagutin-revise c = search rules
 
-kagutin-revise-requires : tie.Need-kagutin-revise-requires
+kagutin-revise-requires : tie.Need-kagutin_revise-read-requires
 kagutin-revise-requires c κs = search rules
 
-refused-requires-2 : tie.Need-refused-requires-2
+refused-requires-2 : tie.Need-refused-requires-then-read-ne0
 refused-requires-2 c κs = search rules
 
-same_length : tie.Need-same-length
+same_length : tie.Need-shape_of-log-then-read-ne0
 same_length c = search rules
 
-same-length-2 : tie.Need-same-length-2
+same-length-2 : tie.Need-shape_of-state-then-read-ne0
 same-length-2 c = search rules
 
-same-length-3 : tie.Need-same-length-3
+same-length-3 : tie.Need-shape_of-newest-then-read-ne0
 same-length-3 c = search rules
 
-returns-2 : tie.Need-returns-2
+returns-2 : tie.Need-returns-then-read-ne0
 unfolding zeros
 returns-2 c =
-    let d = c.refused2.ensures in
-    let r = c.before.before.before.before in
-    let i = r.before.before.before.before.before in
-    arrival-known _ _ _ _ i.before.class-known.ensures i.if1.false
-    (event-unread _ _ _ _ _ _ _ _ _ refl _ r.kagutin-revise.ensures c.before.if2.true d.0 d.1 d.2)
+    let d = c.refused-then-read-ne0.ensures in
+    arrival-known _ _ _ _ c.class_known.ensures c.if-not-class_known.false
+    (event-unread _ _ _ _ _ _ _ _ _ refl _ c.kagutin_revise-read.ensures c.if-read-ne0.true d.0 d.1 d.2)
 
-slice-aggregate-arrive : tie.Need-slice-aggregate-arrive
+slice-aggregate-arrive : tie.Need-slice_bounds-arrive-end
 slice-aggregate-arrive c = search rules
 
-slice-aggregate-arrive-2 : tie.Need-slice-aggregate-arrive-2
+slice-aggregate-arrive-2 : tie.Need-slice_bounds-arrive-end-2
 slice-aggregate-arrive-2 c = search rules
 
-arrive-requires : tie.Need-arrive-requires
+arrive-requires : tie.Need-arrive-code-requires
 arrive-requires c κs = search rules
 
-slice-aggregate-finish : tie.Need-slice-aggregate-finish
+slice-aggregate-finish : tie.Need-slice_bounds-finish-end
 slice-aggregate-finish c = search rules
 
 finish-requires : tie.Need-finish-requires
 finish-requires c κs = search rules
 
-same-length-4 : tie.Need-same-length-4
+same-length-4 : tie.Need-shape_of-log
 same-length-4 c = search rules
 
-same-length-5 : tie.Need-same-length-5
+same-length-5 : tie.Need-shape_of-state
 same-length-5 c = search rules
 
-same-length-6 : tie.Need-same-length-6
+same-length-6 : tie.Need-shape_of-newest
 same-length-6 c = search rules
 
-same-length-7 : tie.Need-same-length-7
+same-length-7 : tie.Need-shape_of-batch
 same-length-7 c = search rules
 
-returns-3 : tie.Need-returns-3
+returns-3 : tie.Need-returns
 unfolding zeros
 returns-3 c =
-    let f = c.before.before.before.before.before.before.before.before in
-    let s = f.before.before.before.before.before.before.before in
-    let r = s.before.before.before.before.before.before in
-    let i = r.before.before.before.before.before in
-    arrival-known _ _ _ _ i.before.class-known.ensures i.if1.false
-    (event-read _ _ _ _ _ _ _ _ _ refl _ r.kagutin-revise.ensures s.before.before.before.if2.false _ _
-    (judging _ _ _ refl s.arrive.ensures) f.finish.ensures)
+    arrival-known _ _ _ _ c.class_known.ensures c.if-not-class_known.false
+    (event-read _ _ _ _ _ _ _ _ _ refl _ c.kagutin_revise-read.ensures c.if-read-ne0.false _ _
+    (judging _ _ _ refl c.arrive-code.ensures) c.finish.ensures)
 
-pub kagutin-alarm-arrive-spec : {M : Type 1} → statement M
-kagutin-alarm-arrive-spec =
+pub kagutin_alarm_arrive_spec : {M : Type 1} → statement M
+kagutin_alarm_arrive_spec =
     tie.close
     (tie.spec
     class-known-requires

@@ -7,71 +7,67 @@ use borrow.Author.Rules.{rules}
 use Rattle.unit_alarms.proofs.kagutin_alarm_clear.Statement.{statement}
 use Rattle.unit_alarms.proofs.kagutin_alarm_clear.Tie as tie
 
-slice-aggregate-kagutin-revise : tie.Need-slice-aggregate-kagutin-revise
+slice-aggregate-kagutin-revise : tie.Need-slice_bounds-kagutin_revise-end
 slice-aggregate-kagutin-revise c = search rules
 
-kagutin-revise-requires : tie.Need-kagutin-revise-requires
+kagutin-revise-requires : tie.Need-kagutin_revise-read-requires
 kagutin-revise-requires c κs = search rules
 
 refused-requires : tie.Need-refused-requires
 refused-requires c κs = search rules
 
-same_length : tie.Need-same-length
+same_length : tie.Need-shape_of-log-then-read-ne0
 same_length c = search rules
 
-same-length-2 : tie.Need-same-length-2
+same-length-2 : tie.Need-shape_of-state-then-read-ne0
 same-length-2 c = search rules
 
-same-length-3 : tie.Need-same-length-3
+same-length-3 : tie.Need-shape_of-newest-then-read-ne0
 same-length-3 c = search rules
 
-returns : tie.Need-returns
+returns : tie.Need-returns-then-read-ne0
 unfolding zeros
 returns c =
     let d = c.refused.ensures in
-    let r = c.before.before.before.before in
     any-clearing _ _ _
-    (event-unread _ _ _ _ _ _ _ _ _ refl _ r.kagutin-revise.ensures c.before.if1.true d.0 d.1 d.2)
+    (event-unread _ _ _ _ _ _ _ _ _ refl _ c.kagutin_revise-read.ensures c.if-read-ne0.true d.0 d.1 d.2)
 
-slice-aggregate-clear : tie.Need-slice-aggregate-clear
+slice-aggregate-clear : tie.Need-slice_bounds-clear-end
 slice-aggregate-clear c = search rules
 
-slice-aggregate-clear-2 : tie.Need-slice-aggregate-clear-2
+slice-aggregate-clear-2 : tie.Need-slice_bounds-clear-end-2
 slice-aggregate-clear-2 c = search rules
 
-clear-requires : tie.Need-clear-requires
+clear-requires : tie.Need-clear-code-requires
 clear-requires c κs = search rules
 
-slice-aggregate-finish : tie.Need-slice-aggregate-finish
+slice-aggregate-finish : tie.Need-slice_bounds-finish-end
 slice-aggregate-finish c = search rules
 
 finish-requires : tie.Need-finish-requires
 finish-requires c κs = search rules
 
-same-length-4 : tie.Need-same-length-4
+same-length-4 : tie.Need-shape_of-log
 same-length-4 c = search rules
 
-same-length-5 : tie.Need-same-length-5
+same-length-5 : tie.Need-shape_of-state
 same-length-5 c = search rules
 
-same-length-6 : tie.Need-same-length-6
+same-length-6 : tie.Need-shape_of-newest
 same-length-6 c = search rules
 
-same-length-7 : tie.Need-same-length-7
+same-length-7 : tie.Need-shape_of-batch
 same-length-7 c = search rules
 
-returns-2 : tie.Need-returns-2
+returns-2 : tie.Need-returns
 unfolding zeros
 returns-2 c =
-    let f = c.before.before.before.before.before.before.before.before in
-    let s = f.before.before.before.before.before.before.before in
-    let r = s.before.before.before.before.before.before in
     any-clearing _ _ _
-    (event-read _ _ _ _ _ _ _ _ _ refl _ r.kagutin-revise.ensures s.before.before.before.if1.false _ _
-    (judging _ _ _ refl s.clear.ensures) f.finish.ensures)
+    (event-read _ _ _ _ _ _ _ _ _ refl _ c.kagutin_revise-read.ensures c.if-read-ne0.false _ _
+    (judging _ _ _ refl c.clear-code.ensures) c.finish.ensures)
 
-pub kagutin-alarm-clear-spec : {M : Type 1} → statement M
-kagutin-alarm-clear-spec =
+pub kagutin_alarm_clear_spec : {M : Type 1} → statement M
+kagutin_alarm_clear_spec =
     tie.close
     (tie.spec
     slice-aggregate-kagutin-revise

@@ -6,30 +6,29 @@ use borrow.Author.Rules.{rules}
 use Rattle.unit_alarms.proofs.kagutin_alarm_gravest.Statement.{statement}
 use Rattle.unit_alarms.proofs.kagutin_alarm_gravest.Tie as tie
 
-slice-aggregate-kagutin-fetch : tie.Need-slice-aggregate-kagutin-fetch
+slice-aggregate-kagutin-fetch : tie.Need-slice_bounds-kagutin_fetch-end
 slice-aggregate-kagutin-fetch c = search rules
 
-kagutin-fetch-requires : tie.Need-kagutin-fetch-requires
+kagutin-fetch-requires : tie.Need-kagutin_fetch-read-requires
 kagutin-fetch-requires c κs = search rules
 
-returns : tie.Need-returns
+returns : tie.Need-returns-then-read-ne0
 unfolding zeros
-returns c = gravest-unread _ _ _ _ _ _ _ refl c.before.before.before.kagutin-fetch.ensures c.if1.true
+returns c = gravest-unread _ _ _ _ _ _ _ refl c.kagutin_fetch-read.ensures c.if-read-ne0.true
 
-slice-aggregate-gravest : tie.Need-slice-aggregate-gravest
+slice-aggregate-gravest : tie.Need-slice_bounds-gravest-end
 slice-aggregate-gravest c = search rules
 
-gravest-requires : tie.Need-gravest-requires
+gravest-requires : tie.Need-gravest-a-requires
 gravest-requires c κs = search rules
 
-returns-2 : tie.Need-returns-2
+returns-2 : tie.Need-returns
 unfolding zeros
 returns-2 c =
-    let i = c.before.before in
-    gravest-read _ _ _ _ _ _ _ refl i.before.before.before.kagutin-fetch.ensures i.if1.false c.gravest.ensures
+    gravest-read _ _ _ _ _ _ _ refl c.kagutin_fetch-read.ensures c.if-read-ne0.false c.gravest-a.ensures
 
-pub kagutin-alarm-gravest-spec : {M : Type 1} → statement M
-kagutin-alarm-gravest-spec =
+pub kagutin_alarm_gravest_spec : {M : Type 1} → statement M
+kagutin_alarm_gravest_spec =
     tie.close
     (tie.spec
     slice-aggregate-kagutin-fetch
