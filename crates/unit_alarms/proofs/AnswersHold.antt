@@ -24,7 +24,7 @@ use Rattle.unit_shared.proofs.MomentShown.{shown-there, first-there, kept_there}
 use Rattle.unit_shared.proofs.RepliesHold.{EventEnds, fetched-code, event-told, told-refused, few-unread, few-unfetched, answered-there}
 use Rattle.unit_alarms_list.specs.declared.Alarm.{Alarm}
 use Rattle.unit_alarms_list.specs.Alarm.{alarm_at}
-use Rattle.unit_alarms_list.specs.OpenAlarms.{gravest, told as shown, kept_for_home}
+use Rattle.unit_alarms_list.specs.OpenAlarms.{gravest, told as shown, gravest_kept}
 use Rattle.unit_alarms_list.specs.Events.{Event, arrival, clearing}
 use Rattle.unit_alarms_list.specs.Guarantees.{open_by, answer_by, held_with, Represents, Typed}
 use Rattle.unit_alarms_list.specs.Stored.{judged}
@@ -119,8 +119,8 @@ gravest-reply w s m es tells_by writer batch = go (ask_read s writer alarm_home 
         (refusals-on-alarms (lent_in w batch) writer).gravest_unread (λ z. absurd (omega (arith, e, z))) ∙ ap (λ (x : ℕ). tells x 0 0 0) e
 
 -- a home of zeros says that none is open
-zeros-none : kept_for_home (zeros 64) ≡ shown (gravest (open_by []))
-unfolding all-definitions kept_for_home alarm_at shown gravest open_by
+zeros-none : gravest_kept (zeros 64) ≡ shown (gravest (open_by []))
+unfolding all-definitions gravest_kept alarm_at shown gravest open_by
 zeros-none = refl
 
 none_open : (l : Lent) (writer : ℕ) → (fetched l writer alarm_home 1).code ≡ 0 → (fetched l writer alarm_home 1).block ≡ zeros 64

@@ -13,7 +13,7 @@ use Rattle.unit_shared.specs.Unit.{Lent, UnitOutcome, leaves, as_judged, fetched
 use Rattle.unit_shared.proofs.UnitLaws.{refusal, read_as, fetching}
 use Rattle.unit_alarms_list.specs.Alarm.{class_known}
 use Rattle.unit_alarms_list.specs.declared.Alarm.{Alarm}
-use Rattle.unit_alarms_list.specs.OpenAlarms.{kept_for_home}
+use Rattle.unit_alarms_list.specs.OpenAlarms.{gravest_kept}
 use Rattle.unit_alarms_list.specs.Events.{Event, arrival, clearing, applied, leaves as output_left}
 use Rattle.unit_alarms.specs.Calls.{judge, arrive_call, clear_call, tells, alarm_tells, gravest_in, gravest_call}
 
@@ -55,6 +55,6 @@ module _ (l : Lent) (writer : ℕ) where
       unfolding gravest_call gravest_in
       gravest-unread n = rw (← fetch, ne_eqb code 0 n)
 
-      pub gravest-read : code ≡ 0 → {a : Alarm} → a ≡ kept_for_home blocks → tells 0 a.identity a.class a.second ≡ gravest_call l writer
+      pub gravest-read : code ≡ 0 → {a : Alarm} → a ≡ gravest_kept blocks → tells 0 a.identity a.class a.second ≡ gravest_call l writer
       unfolding gravest_call gravest_in alarm_tells
       gravest-read n q = rw (← fetch, n, q)

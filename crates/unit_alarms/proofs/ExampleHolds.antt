@@ -17,7 +17,7 @@ use Rattle.unit_events.specs.Folded.{first, noted, note_of, read_for, event_answ
 use Rattle.unit_shared.specs.Unit.{fetched}
 use Rattle.unit_shared.specs.Moments.{lent_in}
 use Rattle.unit_alarms_list.specs.Alarm.{alarm_at, alarm_bytes, class_known, goes_before, graver}
-use Rattle.unit_alarms_list.specs.OpenAlarms.{among, without, gravest_from, gravest, told, alarms_from, limited, open_transaction, alarms_of, kept_for_home, list_bytes, sealed, packed}
+use Rattle.unit_alarms_list.specs.OpenAlarms.{among, without, gravest_from, gravest, told, alarms_from, limited, number_open, alarms_of, gravest_kept, list_bytes, sealed, packed}
 use Rattle.unit_alarms_list.specs.Events.{Event, answer, after, settled, applied}
 use Rattle.unit_alarms_list.specs.Guarantees.{held_with, Typed}
 use Rattle.unit_alarms_list.specs.Stored.{judged}
@@ -28,7 +28,7 @@ use Rattle.unit_alarms.proofs.AlarmsHold.{alarms-kept}
 
 -- a name that unfolds every definition below
 unfoldable computed : Bool
-unfolding all-definitions blocks_lent lent_on and_then stored_first transact_effect blocks_read fetch_effect blocks_right homes_known all_of may_store_all may_read_all room_for_all ask_homes fetch_answer revise_answer transact_answer fetch_call revise_call transact_call transact_ends fetch_ends revise_ends feed_stores feed_transact left_under act acted relabel first noted note_of read_for event_answer storing acts_of stepped ran notes_from notes alarm_at alarm_bytes class_known goes_before graver among without gravest_from gravest told alarms_from limited open_transaction alarms_of kept_for_home list_bytes sealed packed answer after settled applied held_with judged alarm_tells gravest_in gravest_call fetched kept blank blank_copies opens history
+unfolding all-definitions blocks_lent lent_on and_then stored_first transact_effect blocks_read fetch_effect blocks_right homes_known all_of may_store_all may_read_all room_for_all ask_homes fetch_answer revise_answer transact_answer fetch_call revise_call transact_call transact_ends fetch_ends revise_ends feed_stores feed_transact left_under act acted relabel first noted note_of read_for event_answer storing acts_of stepped ran notes_from notes alarm_at alarm_bytes class_known goes_before graver among without gravest_from gravest told alarms_from limited number_open alarms_of gravest_kept list_bytes sealed packed answer after settled applied held_with judged alarm_tells gravest_in gravest_call fetched kept blank blank_copies opens history
 computed = true
 
 format-done : (format_call blank_copies).code ≡ 0

@@ -6,7 +6,7 @@ use Rattle.unit_events.specs.Homes.{alarm_home, alarm_homes}
 use Rattle.unit_shared.specs.Unit.{Lent, UnitOutcome, untouched, Judged, as_judged, fetched, event}
 use Rattle.unit_alarms_list.specs.Alarm.{class_known}
 use Rattle.unit_alarms_list.specs.declared.Alarm.{Alarm}
-use Rattle.unit_alarms_list.specs.OpenAlarms.{kept_for_home}
+use Rattle.unit_alarms_list.specs.OpenAlarms.{gravest_kept}
 use Rattle.unit_alarms_list.specs.Events.{Event, arrival, clearing, applied}
 
 -- "24 .. an arrival already open or a clearing not open; 25 48 open already, at an arrival": "in this order after its 1, 2, 4 and 5 and before the rest"
@@ -34,7 +34,7 @@ unfoldable pub alarm_tells : Alarm → GravestReply
 alarm_tells a = tells 0 a.identity a.class a.second
 
 unfoldable pub gravest_in : Outcome → GravestReply
-gravest_in o = cond (eqb o.code 0) (alarm_tells (kept_for_home o.block)) (tells o.code 0 0 0)
+gravest_in o = cond (eqb o.code 0) (alarm_tells (gravest_kept o.block)) (tells o.code 0 0 0)
 
 unfoldable pub gravest_call : Lent → ℕ → GravestReply
 gravest_call l writer = gravest_in (fetched l writer alarm_home 1)

@@ -10,7 +10,7 @@ use lib.ListN.{length, get_or}
 use Rattle.model.specs.Bytes.{part, puts, zeros, bytes, value, number, put_number}
 use Rattle.model_laws.proofs.bytes.ByteLaws.{length-puts, length-zeros, length-bytes, length-put_number, number-below, number_same, number-part}
 use Rattle.unit_alarms_list.specs.Alarm.{Alarm, alarm, alarm_at, alarm_bytes, InRange}
-use Rattle.unit_alarms_list.specs.OpenAlarms.{gravest, told, alarms_from, limited, open_transaction, alarms_of, kept_for_home, list_bytes, sealed, packed}
+use Rattle.unit_alarms_list.specs.OpenAlarms.{gravest, told, alarms_from, limited, number_open, alarms_of, gravest_kept, list_bytes, sealed, packed}
 use Rattle.unit_alarms_list.specs.Guarantees.{AllInRange}
 use Rattle.unit_alarms_list.proofs.ByteLaws.{length-alarm, alarm-same}
 use Rattle.unit_alarms_list.proofs.WalkLaws.{length_from}
@@ -55,12 +55,12 @@ module _ (xs : List Alarm) where
   length-packed = ap length packed-is ∙ length-puts counted 1 (alarm_bytes (told (gravest xs))) ∙ counted-size
 
   module _ (r : AllInRange xs) where
-    pub kept_back : kept_for_home (packed xs) ≡ told (gravest xs)
-    unfolding kept_for_home
+    pub kept_back : gravest_kept (packed xs) ≡ told (gravest xs)
+    unfolding gravest_kept
     kept_back = rw packed-is (alarm-same counted 1 (told (gravest xs)) (told-range xs r) (omega (arith, counted-size)))
 
     pub list_back : length xs ≤ 48 → alarms_of (packed xs) ≡ xs
-    unfolding alarms_of open_transaction counted put_number body
+    unfolding alarms_of number_open counted put_number body
     list_back h =
         let g = alarm_bytes (told (gravest xs)) in
         let c : number 1 (puts counted 1 g) 0 ≡ length xs =
@@ -71,23 +71,23 @@ module _ (xs : List Alarm) where
         rw (packed-is, c, limited-few (length xs) h) (u ∙ v ∙ w)
 
 -- the first block has the gravest
-pub kept_block : (bs : List ℕ) → kept_for_home (part bs 0 64) ≡ kept_for_home bs
-unfolding kept_for_home alarm_at
+pub kept_block : (bs : List ℕ) → gravest_kept (part bs 0 64) ≡ gravest_kept bs
+unfolding gravest_kept alarm_at
 kept_block bs = rw (number-part 2 bs 0 64 1 (omega arith), number-part 1 bs 0 64 3 (omega arith), number-part 4 bs 0 64 4 (omega arith))
 
 pub few-read : (bs : List ℕ) → length (alarms_of bs) ≤ 48
-unfolding alarms_of open_transaction
+unfolding alarms_of number_open
 few-read bs = omega (arith, length_from bs (limited (number 1 bs 0)) 8, limited-most (number 1 bs 0))
 
 pub range-read : (bs : List ℕ) → ((i : ℕ) → get_or bs i 0 < 256) → AllInRange (alarms_of bs)
 unfolding alarms_of
-range-read bs b = range-from bs b (open_transaction bs) 8
+range-read bs b = range-from bs b (number_open bs) 8
 
 -- format's zeros are an empty list
 pub list-zeros : alarms_of (zeros 384) ≡ []
-unfolding alarms_of open_transaction limited alarms_from zeros number value
+unfolding alarms_of number_open limited alarms_from zeros number value
 list-zeros = refl
 
-pub kept-zeros : kept_for_home (zeros 384) ≡ alarm 0 0 0
-unfolding kept_for_home alarm_at zeros number value
+pub kept-zeros : gravest_kept (zeros 384) ≡ alarm 0 0 0
+unfolding gravest_kept alarm_at zeros number value
 kept-zeros = refl

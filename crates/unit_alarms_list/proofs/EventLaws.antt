@@ -8,7 +8,7 @@ use borrow.Author.Tests.{ne_eqb, lt-ltb, le-ltb, leb-true}
 use lib.Dec.{eqb, leb}
 use lib.ListN.{length}
 use Rattle.unit_alarms_list.specs.Alarm.{Alarm, alarm_at, class_known}
-use Rattle.unit_alarms_list.specs.OpenAlarms.{among, without, place, alarms_from, open_transaction, alarms_of, packed}
+use Rattle.unit_alarms_list.specs.OpenAlarms.{among, without, place, alarms_from, number_open, alarms_of, packed}
 use Rattle.unit_alarms_list.specs.Events.{Event, arrival, clearing, answer, after, leaves, settled, applied}
 use Rattle.unit_alarms_list.proofs.WalkLaws.{length_from}
 
@@ -106,7 +106,7 @@ module _ (bs output : List ℕ) where
   pub refused-class : (a : Alarm) {r : Bool} → r ≡ class_known a.class → r ≡ false → leaves 24 output ≡ applied bs output (arrival a)
   refused-class a e f = refusal (arrival a) (bad-class (alarms_of bs) a (sym e ∙ f)) (λ z. omega arith)
 
-  module _ {n p : ℕ} (v : ℕ) (e : n ≡ open_transaction bs) (f : p ≡ place v (alarms_from bs n 8)) where
+  module _ {n p : ℕ} (v : ℕ) (e : n ≡ number_open bs) (f : p ≡ place v (alarms_from bs n 8)) where
     list-is : alarms_of bs ≡ alarms_from bs n 8
     unfolding alarms_of
     list-is = rw (← e)
@@ -127,7 +127,7 @@ module _ (bs output : List ℕ) where
     unfolding after
     done-clearing h w = completion (clearing v) (clears (alarms_of bs) v (there h)) (w ∙ ap packed (sym (ap (without v) list-is ∙ without-place bs v n 8 p f h)))
 
-  module _ {n p : ℕ} (a : Alarm) (e : n ≡ open_transaction bs) (f : p ≡ place a.identity (alarms_from bs n 8)) {r : Bool} (k : r ≡ class_known a.class) (t : r ≡ true) where
+  module _ {n p : ℕ} (a : Alarm) (e : n ≡ number_open bs) (f : p ≡ place a.identity (alarms_from bs n 8)) {r : Bool} (k : r ≡ class_known a.class) (t : r ≡ true) where
     pub refused-open : p < n → leaves 24 output ≡ applied bs output (arrival a)
     refused-open h = refusal (arrival a) (already (alarms_of bs) a (sym k ∙ t) (there a.identity e f h)) (λ z. omega arith)
 

@@ -13,7 +13,7 @@ use Rattle.model.specs.Bytes.{zeros}
 use Rattle.unit_events.specs.Offered.{joined, done}
 use Rattle.unit_events.proofs.OfferedLaws.{all_done, kept-all}
 use Rattle.unit_alarms_list.specs.Alarm.{Alarm, InRange, class_known}
-use Rattle.unit_alarms_list.specs.OpenAlarms.{among, gravest, told, alarms_of, kept_for_home, packed}
+use Rattle.unit_alarms_list.specs.OpenAlarms.{among, gravest, told, alarms_of, gravest_kept, packed}
 use Rattle.unit_alarms_list.specs.Events.{Event, arrival, clearing, answer, after, settled, applied}
 use Rattle.unit_alarms_list.specs.Guarantees.{Has, Known, Says, out_of_range, already, without_room, arrives, is_absent, clears, open_by, answer_by, AllInRange, Distinct, nothing, Represents, Typed, Grown, held_with, Booked, Readable}
 use Rattle.unit_alarms_list.proofs.EventLaws.{class-most}
@@ -89,7 +89,7 @@ fit-after xs f (clearing i) t z =
       classes = λ b m. f.classes b (without-member i xs b m);
     }
 
-kept_of : (ds : List Event) (bs : List ℕ) → alarms_of bs ≡ open_by ds → kept_for_home bs ≡ told (gravest (open_by ds)) → Fit (open_by ds) → Represents ds bs
+kept_of : (ds : List Event) (bs : List ℕ) → alarms_of bs ≡ open_by ds → gravest_kept bs ≡ told (gravest (open_by ds)) → Fit (open_by ds) → Represents ds bs
 kept_of ds bs l k f = record { list = l; kept = k; few = f.few; distinct = f.distinct; ranges = f.ranges; classes = f.classes }
 
 fit_of : {ds : List Event} {bs : List ℕ} → Represents ds bs → Fit (open_by ds)

@@ -5,7 +5,7 @@ use borrow.Author.Tests.{eq-eqb}
 use Rattle.unit_events.specs.Homes.{alarm_home, alarm_homes}
 use Rattle.unit_events.specs.Folded.{Filling, Growing}
 use Rattle.unit_events.proofs.FoldedHolds.{events-recorded}
-use Rattle.unit_alarms_list.specs.OpenAlarms.{alarms_of, kept_for_home}
+use Rattle.unit_alarms_list.specs.OpenAlarms.{alarms_of, gravest_kept}
 use Rattle.unit_alarms_list.specs.Events.{answer, after, settled, applied}
 use Rattle.unit_alarms_list.specs.Guarantees.{answer_by, held_with, Represents, Typed}
 use Rattle.unit_alarms_list.specs.Stored.{judged, AlarmsRecorded, GravestReply}
@@ -26,4 +26,4 @@ alarms-recorded = events-recorded alarm_home alarm_homes judged held_with Typed 
 pub gravest-told : GravestReply
 gravest-told w ns r writer block ready l z =
     let p = r.partly writer 0 1 block ready (omega arith) l z in
-    ap kept_for_home p.2 ∙ kept_block p.0 ∙ p.1.kept
+    ap gravest_kept p.2 ∙ kept_block p.0 ∙ p.1.kept

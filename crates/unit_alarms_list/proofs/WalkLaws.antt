@@ -7,7 +7,7 @@ use borrow.Author.Tests.{eq-eqb, ne_eqb, le-leb, lt-leb}
 use lib.ListN.{length}
 use Rattle.model.specs.Bytes.{number}
 use Rattle.unit_alarms_list.specs.Alarm.{Alarm, alarm, alarm_at, graver}
-use Rattle.unit_alarms_list.specs.OpenAlarms.{place, gravest_from, gravest, told, alarms_from, limited, open_transaction}
+use Rattle.unit_alarms_list.specs.OpenAlarms.{place, gravest_from, gravest, told, alarms_from, limited, number_open}
 
 pub length_from : (s : List ℕ) (n at : ℕ) → length (alarms_from s n at) ≡ n
 unfolding alarms_from
@@ -24,12 +24,12 @@ from_more s n i at h = let e : n - i ≡ suc (n - (i + 1)) = omega arith in rw e
 
 -- ---- how many
 
-pub open-few : (s : List ℕ) {n : ℕ} → n ≡ number 1 s 0 → n ≤ 48 → (n ≡ open_transaction s) × (n ≤ 48)
-unfolding open_transaction limited
+pub open-few : (s : List ℕ) {n : ℕ} → n ≡ number 1 s 0 → n ≤ 48 → (n ≡ number_open s) × (n ≤ 48)
+unfolding number_open limited
 open-few s {n} e h = (rw (← e, le-leb n 48 h), h)
 
-pub open-many : (s : List ℕ) {n : ℕ} → n ≡ number 1 s 0 → 48 < n → (48 ≡ open_transaction s) × (48 ≤ 48)
-unfolding open_transaction limited
+pub open-many : (s : List ℕ) {n : ℕ} → n ≡ number 1 s 0 → 48 < n → (48 ≡ number_open s) × (48 ≤ 48)
+unfolding number_open limited
 open-many s {n} e h = (rw (← e, lt-leb n 48 h), omega arith)
 
 -- ---- the search

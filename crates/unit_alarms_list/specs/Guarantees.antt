@@ -5,7 +5,7 @@ use Rattle.std.proofs.Math.Option.{none, some}
 use Rattle.model.specs.Bytes.{part, zeros}
 use Rattle.unit_events.specs.Offered.{held_after, done, Accepted}
 use Rattle.unit_alarms_list.specs.Alarm.{Alarm, alarm, InRange}
-use Rattle.unit_alarms_list.specs.OpenAlarms.{gravest, told, alarms_of, kept_for_home, packed}
+use Rattle.unit_alarms_list.specs.OpenAlarms.{gravest, told, alarms_of, gravest_kept, packed}
 use Rattle.unit_alarms_list.specs.Events.{Event, arrival, clearing, answer, applied}
 
 -- ---- the gravest of a list
@@ -74,7 +74,7 @@ pub data Distinct : List Alarm → Type 0 where
 -- six blocks that hold what a list of events says
 pub record Represents (ds : List Event) (bs : List ℕ) : Type 0 where
   pub list : alarms_of bs ≡ open_by ds
-  pub kept : kept_for_home bs ≡ told (gravest (open_by ds))
+  pub kept : gravest_kept bs ≡ told (gravest (open_by ds))
   pub few : length (open_by ds) ≤ 48
   pub distinct : Distinct (open_by ds)
   pub ranges : AllInRange (open_by ds)
@@ -106,8 +106,8 @@ pub record Booked (es : List Event) : Type 0 where
 -- list and gravest are read back as stored, the gravest from the first block alone; all bytes read as a list of at most 48 in range
 pub record Readable : Type 0 where
   pub list : (xs : List Alarm) → AllInRange xs → length xs ≤ 48 → alarms_of (packed xs) ≡ xs
-  pub kept : (xs : List Alarm) → AllInRange xs → kept_for_home (packed xs) ≡ told (gravest xs)
-  pub block : (bs : List ℕ) → kept_for_home (part bs 0 64) ≡ kept_for_home bs
+  pub kept : (xs : List Alarm) → AllInRange xs → gravest_kept (packed xs) ≡ told (gravest xs)
+  pub block : (bs : List ℕ) → gravest_kept (part bs 0 64) ≡ gravest_kept bs
   pub size : (xs : List Alarm) → length (packed xs) ≡ 384
   pub few : (bs : List ℕ) → length (alarms_of bs) ≤ 48
   pub every : (bs : List ℕ) → ((i : ℕ) → get_or bs i 0 < 256) → AllInRange (alarms_of bs)

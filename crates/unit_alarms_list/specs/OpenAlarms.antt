@@ -45,15 +45,15 @@ alarms_from bs (suc n) at = alarm_at bs at ∷ alarms_from bs n (at + 7)
 unfoldable pub limited : ℕ → ℕ
 limited n = cond (leb n 48) n 48
 
-unfoldable pub open_transaction : List ℕ → ℕ
-open_transaction bs = limited (number 1 bs 0)
+unfoldable pub number_open : List ℕ → ℕ
+number_open bs = limited (number 1 bs 0)
 
 unfoldable pub alarms_of : List ℕ → List Alarm
-alarms_of bs = alarms_from bs (open_transaction bs) 8
+alarms_of bs = alarms_from bs (number_open bs) 8
 
 -- the gravest as it is kept: the first block has it
-unfoldable pub kept_for_home : List ℕ → Alarm
-kept_for_home bs = alarm_at bs 1
+unfoldable pub gravest_kept : List ℕ → Alarm
+gravest_kept bs = alarm_at bs 1
 
 unfoldable pub list_bytes : List Alarm → List ℕ
 list_bytes [] = []

@@ -6,7 +6,7 @@ use Rattle.model.specs.History.{World}
 use Rattle.acts.specs.Units.{fetch_ends}
 use Rattle.unit_events.specs.Homes.{alarm_home, alarm_homes}
 use Rattle.unit_events.specs.Folded.{noted, Recorded, AlwaysRecorded}
-use Rattle.unit_alarms_list.specs.OpenAlarms.{gravest, told, kept_for_home}
+use Rattle.unit_alarms_list.specs.OpenAlarms.{gravest, told, gravest_kept}
 use Rattle.unit_alarms_list.specs.Events.{Event, applied}
 use Rattle.unit_alarms_list.specs.Guarantees.{open_by, answer_by, held_with, Represents, Typed}
 
@@ -22,4 +22,4 @@ abbrev pub GravestReply : Type 0
 GravestReply =
     (w : World) (ns : List (Option Event)) → Recorded alarm_home alarm_homes judged held_with Typed answer_by Represents w ns → (writer : ℕ) (block : List ℕ) →
     w.ready ≡ true → length block ≡ 64 → (fetch_ends w writer alarm_home block).code ≡ 0 →
-    kept_for_home (fetch_ends w writer alarm_home block).block ≡ told (gravest (open_by (noted ns)))
+    gravest_kept (fetch_ends w writer alarm_home block).block ≡ told (gravest (open_by (noted ns)))

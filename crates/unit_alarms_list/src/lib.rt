@@ -6,7 +6,7 @@ mod list;
 
 ghost use Rattle.std.specs.Prelude.{◌≡◌, ◌≤◌, length};
 ghost use Rattle.unit_alarms_list.specs.Alarm.{alarm};
-ghost use Rattle.unit_alarms_list.specs.OpenAlarms.{kept_for_home};
+ghost use Rattle.unit_alarms_list.specs.OpenAlarms.{gravest_kept};
 ghost use Rattle.unit_alarms_list.specs.Events.{arrival, clearing, leaves, applied};
 
 use fields::alarm_at;
@@ -66,7 +66,7 @@ pub fn clear(list: &[u8], output: &mut [u8], identity: u16) -> u64
 // The gravest open alarm, three zeros if there is none, from the first of the six blocks.
 pub fn gravest(block: &[u8]) -> Alarm
     requires { 64 ≤ length block.now }
-    ensures { result ≡ kept_for_home block.now }
+    ensures { result ≡ gravest_kept block.now }
 {
     alarm_at(block, 1)
 }

@@ -2,7 +2,7 @@
 ghost use Rattle.std.specs.Prelude.{◌≡◌, ◌+◌, ◌-◌, ◌*◌, ◌≤◌, ◌<◌, [], ◌∷◌, ◌++◌, length};
 ghost use Rattle.model.specs.Bytes.{part, puts, zeros};
 ghost use Rattle.unit_alarms_list.specs.Alarm.{InRange};
-ghost use Rattle.unit_alarms_list.specs.OpenAlarms.{place, gravest, told, alarms_from, open_transaction, sealed, packed};
+ghost use Rattle.unit_alarms_list.specs.OpenAlarms.{place, gravest, told, alarms_from, number_open, sealed, packed};
 
 use crate::Alarm;
 use crate::fields::{alarm_at, graver, put_alarm};
@@ -10,7 +10,7 @@ use crate::fields::{alarm_at, graver, put_alarm};
 // How many are open.
 pub fn open_count(s: &[u8]) -> usize
     requires { length s.now ≡ 384 }
-    ensures { (result ≡ open_transaction s.now) × (result ≤ 48) }
+    ensures { (result ≡ number_open s.now) × (result ≤ 48) }
 {
     let n = base_codec::number(s, 0, 1);
     if n <= 48 { n as usize } else { 48 }

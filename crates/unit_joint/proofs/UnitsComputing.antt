@@ -24,7 +24,7 @@ use Rattle.unit_hours_book.specs.Guarantees as hours
 use Rattle.unit_hours_book.specs.Stored as pumps
 use Rattle.unit_hours.specs.Calls as hours-calls
 use Rattle.unit_alarms_list.specs.Alarm.{alarm_at, alarm_bytes, class_known, goes_before, graver}
-use Rattle.unit_alarms_list.specs.OpenAlarms.{among, without, gravest_from, gravest, told, alarms_from, limited, open_transaction, alarms_of, kept_for_home, list_bytes, sealed, packed}
+use Rattle.unit_alarms_list.specs.OpenAlarms.{among, without, gravest_from, gravest, told, alarms_from, limited, number_open, alarms_of, gravest_kept, list_bytes, sealed, packed}
 use Rattle.unit_alarms_list.specs.Events as alarm-events
 use Rattle.unit_alarms_list.specs.Guarantees as alarms
 use Rattle.unit_alarms_list.specs.Stored as panel
@@ -33,5 +33,5 @@ use Rattle.unit_alarms.specs.Claims as alarm-claims
 use Rattle.unit_joint.specs.Joint.{acts_of, stepped, ran, acts_all, note_of, notes_from, notes, told_in}
 
 unfoldable pub unit-definitions : Bool
-unfolding all-definitions listed_of set_listed fresh_numbers carry_listed list_sign set_list_sign same_listed list_moved sign_for sign_if keep_list signed_list right_to_store right_to_read for_home shown_at list_by store_list read_list of_list is_list in_range in_ranges may_store may_read store_allowed read_allowed abstract-store.reply_of abstract-store.told blocks_lent lent_on and_then stored_first transact_effect blocks_read fetch_effect blocks_right homes_known all_of may_store_all may_read_all room_for_all ask_homes fetch_answer revise_answer transact_answer fetch_call revise_call transact_call transact_ends fetch_ends revise_ends feed_stores feed_transact left_under act acted relabel answer_of first read_for event_answer storing unit.acts_of shared.untouched shared.left_under shared.fetched shared.revised shared.transacted shared.stored shared.after_reading shared.event told_by row rows holds count place depths fit all_fit sound lowest uncovered doubled overlaps coverage judgement pack table.judged table.stored accepted set_call pump_of flag block_of hours-events.late hours-events.total_at hours-events.answer hours-events.after hours-events.settled hours-events.applied hours.held_with pumps.judged hours-calls.known hours-calls.judge hours-calls.event_call hours-calls.pump_tells hours-calls.hours_in hours-calls.hours_call alarm_at alarm_bytes class_known goes_before graver among without gravest_from gravest told alarms_from limited open_transaction alarms_of kept_for_home list_bytes sealed packed alarm-events.answer alarm-events.after alarm-events.settled alarm-events.applied alarms.held_with panel.judged alarm-calls.judge alarm-calls.arrive_call alarm-calls.clear_call alarm-claims.event_call acts_of stepped ran acts_all note_of notes_from notes told_in
+unfolding all-definitions listed_of set_listed fresh_numbers carry_listed list_sign set_list_sign same_listed list_moved sign_for sign_if keep_list signed_list right_to_store right_to_read for_home shown_at list_by store_list read_list of_list is_list in_range in_ranges may_store may_read store_allowed read_allowed abstract-store.reply_of abstract-store.told blocks_lent lent_on and_then stored_first transact_effect blocks_read fetch_effect blocks_right homes_known all_of may_store_all may_read_all room_for_all ask_homes fetch_answer revise_answer transact_answer fetch_call revise_call transact_call transact_ends fetch_ends revise_ends feed_stores feed_transact left_under act acted relabel answer_of first read_for event_answer storing unit.acts_of shared.untouched shared.left_under shared.fetched shared.revised shared.transacted shared.stored shared.after_reading shared.event told_by row rows holds count place depths fit all_fit sound lowest uncovered doubled overlaps coverage judgement pack table.judged table.stored accepted set_call pump_of flag block_of hours-events.late hours-events.total_at hours-events.answer hours-events.after hours-events.settled hours-events.applied hours.held_with pumps.judged hours-calls.known hours-calls.judge hours-calls.event_call hours-calls.pump_tells hours-calls.hours_in hours-calls.hours_call alarm_at alarm_bytes class_known goes_before graver among without gravest_from gravest told alarms_from limited number_open alarms_of gravest_kept list_bytes sealed packed alarm-events.answer alarm-events.after alarm-events.settled alarm-events.applied alarms.held_with panel.judged alarm-calls.judge alarm-calls.arrive_call alarm-calls.clear_call alarm-claims.event_call acts_of stepped ran acts_all note_of notes_from notes told_in
 unit-definitions = true
