@@ -3,11 +3,11 @@ use mathlib.Core.Path.{◌≡◌, refl, sym, ◌∙◌}
 use mathlib.Core.Bool.{Bool, true, false, cond, not, ◌&&◌, and-false}
 use mathlib.Core.List.{List, []}
 use mathlib.Core.Logic.{◌≢◌}
-use Prim.Native.Nat.{ℕ, ◌+◌, ◌*◌, ◌/◌, ◌≤◌, ◌<◌}
+use Prim.Native.Nat.{ℕ, ◌+◌, ◌-◌, ◌*◌, ◌/◌, ◌%◌, ◌≤◌, ◌<◌}
 use native.Mathlib.Omega.{arith}
 use lib.Dec.{eqb, leb, ltb}
 use lib.ListN.{length}
-use borrow.Author.Tests.{eqb-true, leb-true, le-leb, lt-leb, ltb-true, lt-ltb, le-ltb, not-true, not-false}
+use borrow.Author.Tests.{eqb-true, eq-eqb, ne_eqb, leb-true, leb-false, le-leb, lt-leb, ltb-true, lt-ltb, le-ltb, not-true, not-false}
 use Rattle.model.specs.Layout.{home_count}
 use Rattle.model.specs.State.{free_places}
 use Rattle.model.specs.Effects.{Given}
@@ -17,6 +17,31 @@ use Rattle.call_ask.specs.Lent.{lent_all}
 use Rattle.call_ask.proofs.AnswerLaws.{Usable}
 use Rattle.call_ask.proofs.NewestAnswers.{newest-refuses, newest-passes, newest-usable, newest-only}
 use Rattle.acts.specs.Many.{blocks_lent, blocks_right, homes_known, ask_homes}
+
+-- ---- tests
+
+pub blocks-split : (len : ℕ) → len % 64 ≢ 0 → false ≡ (eqb len (64 * (len / 64)) && leb 1 (len / 64) && leb (len / 64) 7)
+blocks-split len h = rw (ne_eqb len (64 * (len / 64)) (λ z. h (omega arith)))
+
+pub blocks-few : (len : ℕ) → len < 64 → false ≡ (eqb len (64 * (len / 64)) && leb 1 (len / 64) && leb (len / 64) 7)
+blocks-few len h = rw (lt-leb 1 (len / 64) (omega arith), and-false (eqb len (64 * (len / 64))))
+
+pub blocks-many : (len : ℕ) → len % 64 ≡ 0 → 64 ≤ len → leb len 448 ≡ (eqb len (64 * (len / 64)) && leb 1 (len / 64) && leb (len / 64) 7)
+blocks-many len e h = rw (eq-eqb len (64 * (len / 64)) (omega arith), le-leb 1 (len / 64) (omega arith)) (go (leb len 448) refl)
+  where
+    go : (t : Bool) → leb len 448 ≡ t → t ≡ leb (len / 64) 7
+    go true q = sym (le-leb (len / 64) 7 (omega (arith, leb-true len 448 q)))
+    go false q = sym (lt-leb (len / 64) 7 (omega (arith, leb-false len 448 q)))
+
+pub homes-past : (home n homes : ℕ) → homes < home → false ≡ leb (home + n) homes
+homes-past home n homes h = sym (lt-leb (home + n) homes (omega arith))
+
+pub homes-left : (home n homes : ℕ) → home ≤ homes → leb n (homes - home) ≡ leb (home + n) homes
+homes-left home n homes h = go (leb n (homes - home)) refl
+  where
+    go : (t : Bool) → leb n (homes - home) ≡ t → t ≡ leb (home + n) homes
+    go true q = sym (le-leb (home + n) homes (omega (arith, leb-true n (homes - home) q)))
+    go false q = sym (lt-leb (home + n) homes (omega (arith, leb-false n (homes - home) q)))
 
 -- ---- questions 1, 2, 4 and 5
 

@@ -1,11 +1,13 @@
 -- What a call that is not refused knows of what it was lent, and how it ends. Assumes nothing.
 use mathlib.Core.Path.{◌≡◌, refl, sym, ap, ◌∙◌}
-use mathlib.Core.Bool.{Bool, true, false, ◌&&◌}
+use mathlib.Core.Bool.{Bool, true, false, cond, ◌&&◌}
 use mathlib.Core.List.{List, [], ◌∷◌, ◌++◌, append-nil}
 use Prim.Native.Nat.{ℕ, ◌+◌, ◌*◌, ◌%◌, ◌≤◌, ◌<◌}
 use native.Mathlib.Nat.{mod-lt}
 use native.Mathlib.Omega.{arith}
+use lib.Dec.{eqb}
 use lib.ListN.{length}
+use borrow.Author.Tests.{eq-eqb, ne_eqb}
 use Rattle.model.specs.Bytes.{puts}
 use Rattle.model.specs.Layout.{group_at, group_offset}
 use Rattle.model.specs.Batch.{Record, record_bytes, batch_bytes}
@@ -34,6 +36,13 @@ block-first g v e = firsts (areas_right g && state_right g && block_right g) (st
 pub newest-first : (g : Given) (v : ℕ) → ask_newest g v ≡ 0 → (ask_newest g 0 ≡ 0) × (v ≡ 0)
 unfolding ask_newest
 newest-first g v e = firsts (areas_right g && state_right g && newest_right g) (state_in_order g) v e
+
+-- a choice by a test
+pub pick_yes : (n m a b : ℕ) → n ≡ m → a ≡ cond (eqb n m) a b
+pick_yes n m a b h = rw (eq-eqb n m h)
+
+pub pick_no : (n m a b : ℕ) → (n ≡ m → ⊥) → b ≡ cond (eqb n m) a b
+pick_no n m a b h = rw (ne_eqb n m h)
 
 -- a ring slot lies in the log
 pub slot-fits : (n groups len : ℕ) → 1 ≤ groups → 64 + 512 * groups ≤ len → 64 + 512 * (n % groups) + 512 ≤ len

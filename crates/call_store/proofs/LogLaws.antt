@@ -13,7 +13,7 @@ use Rattle.model.specs.Layout.{group_at}
 use Rattle.model.specs.Batch.{GW, record_bytes, batch_bytes}
 use Rattle.model.specs.declared.State.{State}
 use Rattle.model.specs.declared.Writer.{Writer}
-use Rattle.model.specs.State.{state_of, set_next, set_filled, next_position, writer_of, set_writer, held_offset, held_of, set_held, holding, logging, holds, has_logged, first_for, count_for}
+use Rattle.model.specs.State.{state_of, set_next, set_filled, next_position, writer_of, set_writer, held_offset, held_of, set_held, set_promise, promise_left, holding, logging, holds, has_logged, first_for, count_for}
 use Rattle.model.specs.Tag.{entry_word}
 use Rattle.model.specs.Effects.{entered, submitted, logged, link_from}
 use Rattle.model.specs.Questions.{ask}
@@ -177,6 +177,11 @@ module _ (l s b : List ℕ) (st : State) (r : Writer) (w : ℕ) where
       let k = rw (e, record-first s l word w (logging home (first_for r (next_position st)) (count_for r + 1)) hw, q) at h in
       record { size = k.size; state = hs ∙ rw k.state; log = k.log; batch = k.batch }
 
+  -- and the promise
+  pub stored-used : (x : List ℕ) (home n k : ℕ) (s₁ s' l' b' : List ℕ) → k ≡ promise_left s w → HeldNext n s₁ l' b' s l b x st r w home
+      → s' ≡ set_promise s₁ w k → StoredOther n s' l' b' s l b x st r w home
+  stored-used x home n k s₁ s' l' b' ek h e = record { size = h.size; state = e ∙ rw (h.state, ek); log = h.log; batch = h.batch }
+
 -- a store that logs nothing
 pub none-logged : (r : Writer) → holds r ≡ false → count_for r + 1 < 2 ^ 64
 unfolding holds count_for has_logged
@@ -190,6 +195,16 @@ pub at_position : (st : State) (r : Writer) (p q : ℕ) → p ≡ q → Fits st 
 at_position st r p q e f = rw e f
 
 -- ---- by the numbers and the record that stand in the strip, there and back
+
+pub next-at : (l s b x : List ℕ) (st : State) (r : Writer) (w home : ℕ) → st ≡ state_of s → r ≡ writer_of s w
+    → MayLog l s b (state_of s) w × Fits (state_of s) (writer_of s w) (next_position (state_of s)) × (length x ≡ 64) × (holds (writer_of s w) ≡ true)
+    × ((writer_of s w).home ≢ home)
+    → MayLog l s b st w × Fits st r (next_position st) × (length x ≡ 64) × (holds r ≡ true) × (r.home ≢ home)
+next-at l s b x st r w home es er h = rw (es, er) h
+
+pub stored_at : (k : ℕ) (s' l' b' s l b x : List ℕ) (st : State) (r : Writer) (w home : ℕ) → st ≡ state_of s → r ≡ writer_of s w
+    → StoredOther k s' l' b' s l b x st r w home → StoredOther k s' l' b' s l b x (state_of s) (writer_of s w) w home
+stored_at k s' l' b' s l b x st r w home es er d = rw (es, er) at d
 
 pub next-own : (l s b x : List ℕ) (st : State) (r : Writer) (w home : ℕ) → st ≡ state_of s → r ≡ writer_of s w
     → MayLog l s b st w × Fits st r (next_position st) × (length x ≡ 64) × (holds r ≡ true) × (r.home ≢ home)

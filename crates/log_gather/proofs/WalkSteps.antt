@@ -181,6 +181,10 @@ drop_more cells₀ cells k v l e d =
     below i m (yes z) = rw z (get_or-set_same cells k v 0 l ∙ e ∙ ap closer_in (d.later k (omega arith)))
     below i m (no z) = get_or-set_other cells k i v 0 z ∙ d.done i (omega arith)
 
+pub drop-next : (cells₀ cells : List ℕ) (k i v : ℕ) → k < length cells → v ≡ closer_in (get_or cells k 0) → i ≡ k → Dropped cells₀ i cells
+    → Dropped cells₀ (i + 1) (set cells k v)
+drop-next cells₀ cells k i v l q e d = rw (← e) (drop_more cells₀ cells i v (omega arith) (rw e q) d)
+
 pub drop-same : (cells₀ cells : List ℕ) (i j : ℕ) → j ≡ i → Dropped cells₀ i cells → Dropped cells₀ j cells
 drop-same cells₀ cells i j e d = rw e d
 
