@@ -165,6 +165,7 @@ test-compared: rust/target/release/bench
 test-c:
 	$(MAKE) --no-print-directory lint
 	$(MAKE) --no-print-directory trace-check
+	python3 tests/exports/exports.py
 	$(MAKE) --no-print-directory c-check
 	$(MAKE) --no-print-directory c-check LIB=$(ARCHIVE) GAUGES_LIB=$(GAUGES_ARCHIVE) INFLOW_LIB=$(INFLOW_ARCHIVE) C_OUT=target/c-archive
 
