@@ -8,13 +8,7 @@ use lib.Dec.{eqb}
 use Rattle.unit_events.specs.Offered.{held_after, joined, done_from, AcceptedFrom, Accepted}
 
 module _ {E : Type 0} (answer : List E → E → ℕ) where
-  -- the events of an accepted list are all done
-  pub all_done : (ds es : List E) → AcceptedFrom answer ds es → done_from answer ds es ≡ ds ++ es
-  unfolding done_from joined AcceptedFrom
-  all_done ds [] h = sym (append-nil ds)
-  all_done ds (e ∷ es) h = rw (eq-eqb (answer ds e) 0 h.0) (all_done (ds ++ (e ∷ [])) es h.1 ∙ append_assoc ds (e ∷ []) es)
-
-  -- so are those of its beginnings
+  -- the beginnings of an accepted list are accepted
   pub accepted-front : (ds es fs : List E) → AcceptedFrom answer ds (es ++ fs) → AcceptedFrom answer ds es
   unfolding AcceptedFrom
   accepted-front ds [] fs h = tt
@@ -36,6 +30,12 @@ module _ {E : Type 0} (answer : List E → E → ℕ) where
           → Accepted answer (done_from answer (cond b (ds ++ (e ∷ [])) ds) es)
       go true q rec = rec (ds ++ (e ∷ [])) (accepted-join [] ds e h (eqb-true (answer ds e) 0 q))
       go false q rec = rec ds h
+
+  -- the events of an accepted list are all done
+  pub all_done : (ds es : List E) → AcceptedFrom answer ds es → done_from answer ds es ≡ ds ++ es
+  unfolding done_from joined AcceptedFrom
+  all_done ds [] h = sym (append-nil ds)
+  all_done ds (e ∷ es) h = rw (eq-eqb (answer ds e) 0 h.0) (all_done (ds ++ (e ∷ [])) es h.1 ∙ append_assoc ds (e ∷ []) es)
 
   -- what holds of the done events and what is held, and of one event more, holds of all
   module _ {B : Type 0} (Represents : List E → B → Type 0) (Fit : E → Type 0) (apply : B → E → B)
