@@ -1,7 +1,7 @@
 // Least and most inflow of a pit whose depth is known only as between two floats.
 #![tactic(auto)]
 
-ghost use Rattle.std.specs.Prelude.{◌≡◌, ◌^◌, ◌≤◌, ◌<◌, pos};
+ghost use Rattle.std.specs.Prelude.{◌≡◌, ◌≤◌, pos};
 ghost use Rattle.alone_inflow.specs.Inflow.{inflow, given, gives, bound_inflow};
 
 // The answer of the call: 0 for done or 23, and both volumes in cm² × mm.
@@ -24,12 +24,12 @@ fn refused() -> Bounds
 }
 
 // Area × change of depth + pumped.
-fn inflow(area: u64, before: u64, after: u64, pumped: u64) -> i64
-    requires { (area ≤ 1000000) × (before < 2 ^ 16) × (after < 2 ^ 16) × (pumped < 2 ^ 32) }
+fn inflow(area: u64, before: u16, after: u16, pumped: u32) -> i64
+    requires { area ≤ 1000000 }
     ensures { result ≡ inflow area before after pumped }
 {
-    let gained = area * after + pumped;
-    let held = area * before;
+    let gained = area * u64::from(after) + u64::from(pumped);
+    let held = area * u64::from(before);
     gained as i64 - held as i64
 }
 
@@ -47,33 +47,16 @@ pub extern "C" fn kagutin_inflow(
     ensures { gives result.code result.least result.most
         ≡ bound_inflow (given area low_before high_before low_after high_after low_pumped high_pumped) }
 {
-    if area < 1 {
+    if area < 1
+        || area > 1_000_000
+        || low_before > high_before
+        || low_after > high_after
+        || low_pumped > high_pumped
+    {
         return refused();
     }
-    if area > 1_000_000 {
-        return refused();
-    }
-    if low_before > high_before {
-        return refused();
-    }
-    if low_after > high_after {
-        return refused();
-    }
-    if low_pumped > high_pumped {
-        return refused();
-    }
-    let least = inflow(
-        area,
-        high_before as u64,
-        low_after as u64,
-        low_pumped as u64,
-    );
-    let most = inflow(
-        area,
-        low_before as u64,
-        high_after as u64,
-        high_pumped as u64,
-    );
+    let least = inflow(area, high_before, low_after, low_pumped);
+    let most = inflow(area, low_before, high_after, high_pumped);
     Bounds {
         code: 0,
         least,
