@@ -1,26 +1,15 @@
 -- One turn of the loops that count and write the lines, and their ends. Assumes nothing.
 use mathlib.Core.Path.{◌≡◌, refl, sym, ap, ◌∙◌}
 use mathlib.Core.List.{List, [], ◌∷◌}
-use Prim.Native.Nat.{ℕ, ◌+◌, ◌*◌, ◌≤◌, ◌<◌}
+use Prim.Native.Nat.{ℕ, ◌+◌, ◌*◌, ◌≤◌}
 use native.Mathlib.Omega.{arith}
-use mir.Syntax.{w64}
-use mir.Val.{Fits}
 use lib.ListN.{length}
 use Rattle.alone_gauges.specs.Report.{Line, hit, of_kind, encode}
 use Rattle.alone_gauges.specs.Compare.{written}
 use Rattle.alone_gauges.specs.Merge.{puts}
-use Rattle.alone_gauges.proofs.OutputLaws.{kind-nil, kind-step, hit-le, puts-nil, puts-line, puts-written, length-puts}
+use Rattle.alone_gauges.proofs.OutputLaws.{kind-nil, kind-step, puts-nil, puts-line, puts-written, length-puts}
 
 -- ---- counts
-
-pub hit-small : {r : ℕ} (kind k : ℕ) → r ≡ hit kind k → r ≤ 1
-hit-small {r} kind k e = omega (arith, hit-le kind k)
-
-pub count_fits : {n r at rows : ℕ} → n ≤ at → at < rows → rows ≤ 11520 → r ≤ 1 → Fits w64 (n + r)
-count_fits a b c d = record { fits = omega arith }
-
-pub count-bound : {n r at at' : ℕ} → n ≤ at → r ≤ 1 → at < at' → n + r ≤ at'
-count-bound a b c = omega arith
 
 pub count-more : (k n : ℕ) {r t : ℕ} {l : Line} {ls rs : List Line} → n + of_kind k ls ≡ t → ls ≡ l ∷ rs → r ≡ hit l.kind k → n + r + of_kind k rs ≡ t
 count-more k n {r} {t} {l} {ls} {rs} a e b = let s = kind-step k e in omega arith

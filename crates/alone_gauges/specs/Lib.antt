@@ -1,4 +1,5 @@
 pub mod Readings
+pub mod Kind
 pub mod Report
 pub mod Compare
 pub mod Merge

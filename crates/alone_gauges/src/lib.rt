@@ -4,10 +4,12 @@
 mod merge;
 mod readings;
 
-ghost use Rattle.std.specs.Prelude.{◌≡◌};
+ghost use Rattle.std.specs.Prelude.{◌≡◌, ◌+◌, ◌<◌};
 ghost use Rattle.alone_gauges.specs.Compare.{leaves, compare_gauges};
+ghost use Rattle.alone_gauges.specs.Kind.{kind_number};
+ghost use Rattle.alone_gauges.specs.Report.{hit};
 
-use merge::{tally, write_lines};
+use merge::{Kind, tally, write_lines};
 use readings::acceptable;
 
 // The answer of the call: 0 for done or 22, and the lines of each kind.
@@ -21,15 +23,39 @@ pub struct Comparison {
     pub only_second: u64,
 }
 
-fn refused() -> Comparison
-    ensures { (result.code ≡ 22) × (result.agreeing ≡ 0) × (result.differing ≡ 0) × (result.only_first ≡ 0) × (result.only_second ≡ 0) }
-{
-    Comparison {
-        code: 22,
-        agreeing: 0,
-        differing: 0,
-        only_first: 0,
-        only_second: 0,
+impl Comparison {
+    // An answer with no lines counted.
+    fn of_none(code: u64) -> Self
+        ensures { (result.code ≡ code) × (result.agreeing ≡ 0) × (result.differing ≡ 0) × (result.only_first ≡ 0) × (result.only_second ≡ 0) }
+    {
+        Comparison {
+            code,
+            agreeing: 0,
+            differing: 0,
+            only_first: 0,
+            only_second: 0,
+        }
+    }
+
+    // Counts one more line.
+    #[tactic(auto, unfolding(crate::specs::Report::hit))]
+    fn count(&mut self, kind: Kind)
+        requires agreeing { self.old.agreeing < 65536 }
+        requires differing { self.old.differing < 65536 }
+        requires only_first { self.old.only_first < 65536 }
+        requires only_second { self.old.only_second < 65536 }
+        ensures agreeing { self.new.agreeing ≡ self.old.agreeing + hit (kind_number kind) 1 }
+        ensures differing { self.new.differing ≡ self.old.differing + hit (kind_number kind) 2 }
+        ensures only_first { self.new.only_first ≡ self.old.only_first + hit (kind_number kind) 3 }
+        ensures only_second { self.new.only_second ≡ self.old.only_second + hit (kind_number kind) 4 }
+        ensures code { self.new.code ≡ self.old.code }
+    {
+        match kind {
+            Kind::Agreeing => self.agreeing += 1,
+            Kind::Differing => self.differing += 1,
+            Kind::OnlyFirst => self.only_first += 1,
+            Kind::OnlySecond => self.only_second += 1,
+        }
     }
 }
 
@@ -44,23 +70,15 @@ pub extern "C" fn kagutin_compare_gauges(
     ensures { leaves result.code result.agreeing result.differing result.only_first result.only_second report.new
         ≡ compare_gauges first.now second.now report.old tolerance }
 {
-    if !acceptable(first) {
-        return refused();
+    if !acceptable(first) || !acceptable(second) {
+        return Comparison::of_none(22);
     }
-    if !acceptable(second) {
-        return refused();
-    }
-    let counts = tally(first, second, tolerance as u64);
+    let tolerance = u64::from(tolerance);
+    let counts = tally(first, second, tolerance);
     let lines = counts.agreeing + counts.differing + counts.only_first + counts.only_second;
     if (report.len() as u64) < 3 * lines {
-        return refused();
+        return Comparison::of_none(22);
     }
-    write_lines(report, first, second, tolerance as u64);
-    Comparison {
-        code: 0,
-        agreeing: counts.agreeing,
-        differing: counts.differing,
-        only_first: counts.only_first,
-        only_second: counts.only_second,
-    }
+    write_lines(report, first, second, tolerance);
+    counts
 }
