@@ -1,11 +1,9 @@
 -- Laws of specs/Line, one for each return of the code. Assumes nothing.
-use mathlib.Core.Path.{◌≡◌, refl, sym, ap, ◌∙◌}
-use mathlib.Core.Bool.{false}
+use mathlib.Core.Path.{◌≡◌, refl}
 use mathlib.Core.List.{List, [], ◌∷◌}
 use Prim.Native.Nat.{ℕ, ◌+◌, ◌-◌, ◌≤◌, ◌<◌}
 use native.Mathlib.Omega.{arith}
 use borrow.Author.Tests.{le-leb, lt-leb, eq-eqb, ne_eqb}
-use lib.Dec.{eqb}
 use lib.ListN.{length, take, drop, get_or, length-drop}
 use lib.Seq.{take_all, drop-drop}
 use Rattle.prog_lines.specs.Text.{index_of, decimal}
@@ -32,88 +30,69 @@ bare-other letter f w t = rw (ne_eqb letter 102 f, ne_eqb letter 119 w, ne_eqb l
 
 -- ---- a writer
 
-module _ (line : List ℕ) (letter w : ℕ) (h : 2 ≤ length line) (e : w ≡ decimal (take (length line - 2) (drop 2 line))) where
-  writer-is : decimal (drop 2 line) ≡ w
-  writer-is =
-      sym (e ∙ ap decimal (take_all (length line - 2) (drop 2 line) (simp length-drop (omega arith))))
-
-  pub writer-large : 65535 < w → Malformed ≡ writer_line letter (drop 2 line)
+module _ (letter : ℕ) (text : List ℕ) where
+  pub writer-none : 65535 < decimal text → Malformed ≡ writer_line letter text
   unfolding writer_line
-  writer-large l = rw (writer-is, lt-leb w 65535 l)
+  writer-none l = rw (lt-leb (decimal text) 65535 l)
 
-  pub writer-begins : w ≤ 65535 → letter ≡ 98 → Begin w ≡ writer_line letter (drop 2 line)
-  unfolding writer_line
-  writer-begins l q = rw (writer-is, le-leb w 65535 l, eq-eqb letter 98 q)
+  module _ (w : ℕ) (e : w ≡ decimal text) (l : w ≤ 65535) where
+    pub writer-begins : letter ≡ 98 → Begin w ≡ writer_line letter text
+    unfolding writer_line
+    writer-begins q = rw (← e, le-leb w 65535 l, eq-eqb letter 98 q)
 
-  pub writer-commits : w ≤ 65535 → (letter ≡ 98 → ⊥) → Commit w ≡ writer_line letter (drop 2 line)
-  unfolding writer_line
-  writer-commits l q = rw (writer-is, le-leb w 65535 l, ne_eqb letter 98 q)
+    pub writer-commits : (letter ≡ 98 → ⊥) → Commit w ≡ writer_line letter text
+    unfolding writer_line
+    writer-commits q = rw (← e, le-leb w 65535 l, ne_eqb letter 98 q)
 
 -- ---- writer, home and fill byte
 
-module _ (line : List ℕ) (first : ℕ) (h : 2 ≤ length line) (f : first ≡ 2 + index_of 32 (drop 2 line)) where
-  pub store-short : first ≡ length line → Malformed ≡ store_line (drop 2 line)
+module _ (text : List ℕ) (first : ℕ) (f : first ≡ index_of 32 text) where
+  pub store-short : first ≡ length text → Malformed ≡ store_line text
   unfolding store_line
-  store-short e =
-      let l : length (drop 2 line) ≡ length line - 2 = simp length-drop in
-      rw (eq-eqb (index_of 32 (drop 2 line)) (length (drop 2 line)) (omega arith))
+  store-short e = rw (← f, eq-eqb first (length text) e)
 
-  module _ (second : ℕ) (n : first ≡ length line → ⊥) (k : first ≤ length line) (s : second ≡ first + 1 + index_of 32 (drop (first + 1) line)) where
-    more : drop (index_of 32 (drop 2 line) + 1) (drop 2 line) ≡ drop (first + 1) line
-    more =
-        let e : 2 + (index_of 32 (drop 2 line) + 1) ≡ first + 1 = omega arith in
-        drop-drop (index_of 32 (drop 2 line) + 1) 2 line ∙ rw e
+  module _ (second : ℕ) (n : first ≡ length text → ⊥) (k : first ≤ length text) (s : second ≡ first + 1 + index_of 32 (drop (first + 1) text)) where
+    behind : length (drop (first + 1) text) ≡ length text - (first + 1)
+    behind = simp length-drop
 
-    not_short : eqb (index_of 32 (drop 2 line)) (length (drop 2 line)) ≡ false
-    not_short =
-        let l : length (drop 2 line) ≡ length line - 2 = simp length-drop in
-        ne_eqb (index_of 32 (drop 2 line)) (length (drop 2 line)) (λ e. n (omega arith))
-
-    pub store_two : second ≡ length line → Malformed ≡ store_line (drop 2 line)
+    pub store_two : second ≡ length text → Malformed ≡ store_line text
     unfolding store_line
-    store_two e =
-        let l : length (drop (first + 1) line) ≡ length line - (first + 1) = simp length-drop in
-        rw (not_short, more, eq-eqb (index_of 32 (drop (first + 1) line)) (length (drop (first + 1) line)) (omega arith))
+    store_two e = rw (← f, ne_eqb first (length text) n, eq-eqb (index_of 32 (drop (first + 1) text)) (length (drop (first + 1) text)) (omega (arith, behind)))
 
-    module _ (m : second ≡ length line → ⊥) (t : second ≤ length line) where
-      fields : store_line (drop 2 line)
-          ≡ store_fields (decimal (take (first - 2) (drop 2 line))) (decimal (take (second - (first + 1)) (drop (first + 1) line)))
-          (decimal (take (length line - (second + 1)) (drop (second + 1) line)))
+    module _ (m : second ≡ length text → ⊥) (t : second ≤ length text) where
+      fields : store_line text
+          ≡ store_fields (decimal (take first text)) (decimal (take (second - (first + 1)) (drop (first + 1) text))) (decimal (take (length text - (second + 1)) (drop (second + 1) text)))
       unfolding store_line
       fields =
-          let l : length (drop (first + 1) line) ≡ length line - (first + 1) = simp length-drop in
-          let a : first - 2 ≡ index_of 32 (drop 2 line) = omega arith in
-          let b : second - (first + 1) ≡ index_of 32 (drop (first + 1) line) = omega arith in
-          let d : first + 1 + (index_of 32 (drop (first + 1) line) + 1) ≡ second + 1 = omega arith in
+          let b : second - (first + 1) ≡ index_of 32 (drop (first + 1) text) = omega arith in
+          let d : first + 1 + (index_of 32 (drop (first + 1) text) + 1) ≡ second + 1 = omega arith in
           rw (
-            not_short,
-            more,
-            ne_eqb (index_of 32 (drop (first + 1) line)) (length (drop (first + 1) line)) (λ e. m (omega arith)),
-            a,
+            ← f,
+            ne_eqb first (length text) n,
+            ne_eqb (index_of 32 (drop (first + 1) text)) (length (drop (first + 1) text)) (λ e. m (omega (arith, behind))),
             b,
-            drop-drop (index_of 32 (drop (first + 1) line) + 1) (first + 1) line,
+            drop-drop (index_of 32 (drop (first + 1) text) + 1) (first + 1) text,
             d,
-            take_all (length line - (second + 1)) (drop (second + 1) line) (simp length-drop (omega arith)),
+            take_all (length text - (second + 1)) (drop (second + 1) text) (simp length-drop (omega arith)),
           )
 
-      module _ (w : ℕ) (ew : w ≡ decimal (take (first - 2) (drop 2 line))) where
-        pub store-writer : 65535 < w → Malformed ≡ store_line (drop 2 line)
+      pub store-writer : 65535 < decimal (take first text) → Malformed ≡ store_line text
+      unfolding store_fields
+      store-writer l = rw (fields, lt-leb (decimal (take first text)) 65535 l)
+
+      module _ (w : ℕ) (ew : w ≡ decimal (take first text)) (lw : w ≤ 65535) where
+        pub store-home : 65535 < decimal (take (second - (first + 1)) (drop (first + 1) text)) → Malformed ≡ store_line text
         unfolding store_fields
-        store-writer l = rw (fields, ← ew, lt-leb w 65535 l)
+        store-home l = rw (fields, ← ew, le-leb w 65535 lw, lt-leb (decimal (take (second - (first + 1)) (drop (first + 1) text))) 65535 l)
 
-        module _ (lw : w ≤ 65535) (home : ℕ) (eh : home ≡ decimal (take (second - (first + 1)) (drop (first + 1) line))) where
-          pub store-home : 65535 < home → Malformed ≡ store_line (drop 2 line)
+        module _ (home : ℕ) (eh : home ≡ decimal (take (second - (first + 1)) (drop (first + 1) text))) (lh : home ≤ 65535) where
+          pub store_byte : 255 < decimal (take (length text - (second + 1)) (drop (second + 1) text)) → Malformed ≡ store_line text
           unfolding store_fields
-          store-home l = rw (fields, ← ew, le-leb w 65535 lw, ← eh, lt-leb home 65535 l)
+          store_byte l = rw (fields, ← ew, le-leb w 65535 lw, ← eh, le-leb home 65535 lh, lt-leb (decimal (take (length text - (second + 1)) (drop (second + 1) text))) 255 l)
 
-          module _ (lh : home ≤ 65535) (byte : ℕ) (eb : byte ≡ decimal (take (length line - (second + 1)) (drop (second + 1) line))) where
-            pub store_byte : 255 < byte → Malformed ≡ store_line (drop 2 line)
-            unfolding store_fields
-            store_byte l = rw (fields, ← ew, le-leb w 65535 lw, ← eh, le-leb home 65535 lh, ← eb, lt-leb byte 255 l)
-
-            pub store-right : byte ≤ 255 → Store w home byte ≡ store_line (drop 2 line)
-            unfolding store_fields
-            store-right l = rw (fields, ← ew, le-leb w 65535 lw, ← eh, le-leb home 65535 lh, ← eb, le-leb byte 255 l)
+          pub store-right : (byte : ℕ) → byte ≡ decimal (take (length text - (second + 1)) (drop (second + 1) text)) → byte ≤ 255 → Store w home byte ≡ store_line text
+          unfolding store_fields
+          store-right byte eb l = rw (fields, ← ew, le-leb w 65535 lw, ← eh, le-leb home 65535 lh, ← eb, le-leb byte 255 l)
 
 -- ---- a line
 
@@ -162,3 +141,6 @@ module _ (line : List ℕ) (l : 2 ≤ length line) (e : get_or line 1 0 ≡ 32) 
   unfolding fields_line
   line_other n m s =
       rw (line-fields line l e, ne_eqb (get_or line 0 0) 98 n, ne_eqb (get_or line 0 0) 99 m, ne_eqb (get_or line 0 0) 115 s)
+
+pub all-behind : (line : List ℕ) → 2 ≤ length line → take (length line - 2) (drop 2 line) ≡ drop 2 line
+all-behind line h = take_all (length line - 2) (drop 2 line) (simp length-drop (omega arith))

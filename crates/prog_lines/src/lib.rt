@@ -6,8 +6,9 @@
 
 mod text;
 
-ghost use Rattle.std.specs.Prelude.{◌≡◌, ◌≤◌, length, drop};
+ghost use Rattle.std.specs.Prelude.{◌≡◌, unwrap_or};
 ghost use Rattle.prog_lines.specs.Line.{bare_line, writer_line, store_line, line_of};
+ghost use Rattle.prog_lines.specs.declared.Line.TheVariants.{Malformed};
 
 use text::number;
 pub use text::until;
@@ -36,67 +37,52 @@ fn bare(letter: u8) -> Line
     }
 }
 
-// The line `b W` or `c W`.
-fn of_writer(line: &[u8], letter: u8) -> Line
-    requires { 2 ≤ length line.now }
-    ensures { result ≡ writer_line letter (drop 2 line.now) }
+// The rest of the line `b W` or `c W`.
+fn of_writer(letter: u8, text: &[u8]) -> Line
+    ensures { result ≡ writer_line letter text.now }
 {
-    let writer = number(line, 2, line.len());
-    if writer > 65535 {
-        return Line::Malformed;
+    match number(text) {
+        None => Line::Malformed,
+        Some(writer) => {
+            if letter == b'b' {
+                Line::Begin(writer)
+            } else {
+                Line::Commit(writer)
+            }
+        }
     }
-    if letter == b'b' {
-        return Line::Begin(writer);
-    }
-    Line::Commit(writer)
 }
 
-// The line `s W HOME FILL`.
-fn of_store(line: &[u8]) -> Line
-    requires { 2 ≤ length line.now }
-    ensures { result ≡ store_line (drop 2 line.now) }
+// The rest of the line `s W HOME FILL`, if it is one.
+fn of_store(text: &[u8]) -> Option<Line>
+    ensures { unwrap_or result Malformed ≡ store_line text.now }
 {
-    let first = until(line, 2, b' ');
-    if first == line.len() {
-        return Line::Malformed;
+    let first = until(text, 0, b' ');
+    if first == text.len() {
+        return None;
     }
-    let second = until(line, first + 1, b' ');
-    if second == line.len() {
-        return Line::Malformed;
+    let second = until(text, first + 1, b' ');
+    if second == text.len() {
+        return None;
     }
-    let writer = number(line, 2, first);
-    if writer > 65535 {
-        return Line::Malformed;
-    }
-    let home = number(line, first + 1, second);
-    if home > 65535 {
-        return Line::Malformed;
-    }
-    let fill = number(line, second + 1, line.len());
-    if fill > 255 {
-        return Line::Malformed;
-    }
-    Line::Store(writer, home, fill as u8)
+    let writer = number(&text[..first])?;
+    let home = number(&text[first + 1..second])?;
+    let fill = number(&text[second + 1..])?;
+    Some(Line::Store(writer, home, u8::try_from(fill).ok()?))
 }
 
 // Reads a line, without its line end.
 pub fn parse(line: &[u8]) -> Line
     ensures { result ≡ line_of line.now }
 {
-    if line.len() == 0 {
-        return Line::Malformed;
-    }
-    let letter = line[0];
-    if line.len() == 1 {
-        return bare(letter);
-    }
-    if line[1] != b' ' {
-        return Line::Malformed;
-    }
-    match letter {
-        b'b' => of_writer(line, letter),
-        b'c' => of_writer(line, letter),
-        b's' => of_store(line),
+    match line {
+        [] => Line::Malformed,
+        [letter] => bare(*letter),
+        [letter, b' ', text @ ..] => match letter {
+            b'b' | b'c' => of_writer(*letter, text),
+            b's' => of_store(text).unwrap_or(Line::Malformed),
+            _ => Line::Malformed,
+        },
         _ => Line::Malformed,
     }
 }
