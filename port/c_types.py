@@ -1,10 +1,12 @@
 """The C types of a program: each struct is declared when it is first met, after those that it holds."""
 from forms import BOOL, U64, UNIT, Array, Fields, IntType, Named, Ref, Slice, Stop, U8
 
+OWN_NAMES = {'core::result::Result': ('ok', 'err'), 'core::option::Option': ('none', 'some')}
+
 
 def c_name(name):
     """A path of the program as one C name; the literals of a specialised copy stand after it."""
-    return name.replace('::', '__').replace('@', '_')
+    return name.replace('::', '__').replace('@', '_').replace('+', '_')
 
 
 def item_of(t):
@@ -13,8 +15,8 @@ def item_of(t):
 
 
 class Types:
-    def __init__(self, shapes, field_names):
-        self.shapes, self.field_names = shapes, field_names
+    def __init__(self, shapes, field_names, heads=None):
+        self.shapes, self.field_names, self.heads = shapes, field_names, heads or {}
         self.structs = {}                               # C name -> declarations of its members
         self.named = {}                                 # C name -> the type that has it
 
@@ -39,7 +41,7 @@ class Types:
             members = lambda: [f'{self.c(t.item)} at[{t.count}]']
         elif isinstance(t, Named):
             name = 'struct ' + c_name(t.name)
-            members = lambda: [self.declare(u, n) for n, u in self.members(t)]
+            members = lambda: self.declared_members(t)
         else:
             raise Stop(f'type {t}')
         if self.named.setdefault(name, t) != t:
@@ -52,10 +54,17 @@ class Types:
         c = self.c(t)
         return c + name if c.endswith('*') else f'{c} {name}'
 
+    def declared_members(self, t):
+        names = [n for n, u in self.members(t) if u != UNIT]
+        if not names or len(set(names)) != len(names):
+            raise Stop(f'the type {t.name}, which has no value but one or two members of one name')
+        return [self.declare(u, n) for n, u in self.members(t) if u != UNIT]
+
     def shape(self, t):
-        if t.name not in self.shapes:
-            raise Stop(f'no shape of {t.name}')
-        return self.shapes[t.name]
+        try:
+            return self.shapes[t.name]
+        except KeyError:
+            raise Stop(f'no shape of {t.name}') from None
 
     def is_struct(self, t):
         return isinstance(t, Named) and isinstance(self.shape(t), Fields)
@@ -68,22 +77,27 @@ class Types:
         one type at one position share a member: only those of the variant that the tag names are ever read."""
         shape = self.shape(t)
         if isinstance(shape, Fields):
-            names = self.field_names.get(t.name, [])
+            names = self.field_names.get(self.head(t), [])
             if len(names) != len(shape.types):
                 names = [f'f{i}' for i in range(len(shape.types))]
             return list(zip(names, shape.types))
         out = [('tag', U8)]
-        for variant in shape.variants:
-            out += [m for i, u in enumerate(variant) if (m := (self.variant_member(i, u), u)) not in out]
+        for k in range(len(shape.variants)):
+            out += [m for m in self.variant_fields(t, k)[1:] if m not in out]
         return out
+
+    def head(self, t):
+        """The declared type's name without what is given for its parameters."""
+        return self.heads.get(t.name, (t.name,))[0]
 
     def variant_member(self, index, t):
         return f'{self.short(t)}_{index}'
 
     def variant_fields(self, t, index):
-        """Names and types of the tag and the fields of one variant."""
-        types = self.shape(t).variants[index]
-        return [('tag', U8)] + [(self.variant_member(i, u), u) for i, u in enumerate(types)]
+        """Names and types of the tag and the fields of one variant. Those of Option and Result have names of their own."""
+        types, variants = self.shape(t).variants[index], self.shape(t).variants
+        names = OWN_NAMES.get(self.head(t)) if len(set(variants)) == len(variants) else None
+        return [('tag', U8)] + [(names[index] if names else self.variant_member(i, u), u) for i, u in enumerate(types)]
 
     def slice_fields(self, t):
         return [('ptr', Ref(t.mutable, t.item)), ('len', U64)]

@@ -2,14 +2,14 @@
 import re
 
 from c_types import item_of
-from forms import (BOOL, U32, U64, Address, Aggregate, Array, Binary, Bool, Cast, Copy, Deref, Field, Int, IntType, Load, Named,
-                   Offset, Place, Ref, Slice, Stop, Unary, Variant)
+from forms import (BOOL, U32, U64, UNIT, Address, Aggregate, Array, Binary, Bool, Cast, Choice, Copy, Deref, Field, Int, IntType, Load,
+                   Named, Offset, Place, Ref, Slice, Stop, Unary, Variant)
 
 SIGNS = {'Add': '+', 'Sub': '-', 'Mul': '*', 'Div': '/', 'Rem': '%', 'And': '&', 'Or': '|', 'Xor': '^', 'Shl': '<<', 'Shr': '>>',
          'Eq': '==', 'Ne': '!=', 'Lt': '<', 'Le': '<='}
 COMPARISONS = ('Eq', 'Ne', 'Lt', 'Le')
 # what leaves the range of naturals wraps round
-SAME_BITS = {'SignedAdd': 'Add', 'SignedSub': 'Sub', 'SignedMul': 'Mul', 'WrapAdd': 'Add', 'WrapSub': 'Sub'}
+SAME_BITS = {'SignedAdd': 'Add', 'SignedSub': 'Sub', 'SignedMul': 'Mul', 'WrapAdd': 'Add', 'WrapSub': 'Sub', 'WrapMul': 'Mul'}
 SIGNED_HELPERS = {'SignedDiv': 'divide_signed', 'SignedRem': 'remainder_signed', 'SignedShr': 'shift_signed'}
 OF_BOOLS = ('And', 'Or', 'Xor', 'Eq', 'Ne')
 COUNTS = {'CountOnes': 'count_ones', 'TrailingZeros': 'trailing_zeros', 'LeadingZeros': 'leading_zeros'}
@@ -90,6 +90,8 @@ class Values:
             return self.cast(f, value)
         if isinstance(value, Unary):
             return self.unary(f, value)
+        if isinstance(value, Choice):
+            return self.choice(f, value)
         if isinstance(value, Address):
             return self.address(f, value.place)
         if isinstance(value, Offset):
@@ -143,6 +145,20 @@ class Values:
             self.helpers.add(COUNTS[value.op])
             return f'{COUNTS[value.op]}({bare(text)})', U32
         raise Stop(f'{value.op} of {t}')
+
+    def choice(self, f, value):
+        """One of two values; of booleans a literal on one side makes it C's `and` or `or`. A narrow number comes out as wide as int, so it is cast back."""
+        test, (x, t), (y, u) = self.value(f, value.test)[0], self.value(f, value.then), self.value(f, value.other)
+        if t != u or not isinstance(t, IntType) and t != BOOL:
+            raise Stop(f'a choice of {t} and {u}')
+        if value.other == Bool(False):
+            return f'({test} && {x})', t
+        if value.then == Bool(True):
+            return f'({test} || {y})', t
+        if isinstance(t, IntType) and t.width < 64:
+            return f'({self.types.c(t)})({test} ? {x} : {y})', t
+        wide = '(uint64_t)' if isinstance(t, IntType) and is_literal(value.then) and is_literal(value.other) else ''
+        return f'({test} ? {wide}{x} : {y})', t
 
     def binary(self, f, value):
         """Both operands have one width. Narrow ones are computed in 32 bits and cast back; of two literals one is widened, so that
@@ -238,7 +254,7 @@ class Values:
             raise Stop(f'aggregate of {want}')
         if len(members) != len(value.parts):
             raise Stop('an aggregate of a wrong count')
-        return f'({name}){{{", ".join(f".{n} = {self.as_type(f, p, t)}" for p, (n, t) in zip(value.parts, members))}}}'
+        return f'({name}){{{", ".join(f".{n} = {self.as_type(f, p, t)}" for p, (n, t) in zip(value.parts, members) if t != UNIT)}}}'
 
     def slice_parts(self, f, parts, want):
         """Pointer and length. Proved: the slice lies in memory, so its length fits size_t."""

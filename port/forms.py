@@ -142,6 +142,14 @@ class Binary:
 
 
 @dataclass(frozen=True)
+class Choice:
+    """The one value where a test holds, else the other: two branches of a function that is put in place (library.py), no form of the prover."""
+    test: object
+    then: object
+    other: object
+
+
+@dataclass(frozen=True)
 class Offset:
     """A pointer moved up by a count of bytes."""
     pointer: object
@@ -220,6 +228,11 @@ class Return:
 
 
 @dataclass(frozen=True)
+class Unreachable:
+    """No run comes here; the reader leaves out the arm that ends so."""
+
+
+@dataclass(frozen=True)
 class Lend:
     """A local points from here on to an array that is there from the start and never written; the reader makes a local array of it."""
     local: int
@@ -240,7 +253,7 @@ class Function:
         self.name, self.params, self.types, self.body = name, params, types, body
         self.in_memory = in_memory                      # the locals whose address may be taken
         self.names = [f'p{i}' if 1 <= i <= params else f't{i}' for i in range(len(types))]
-        self.comment = ''
+        self.comment, self.is_done = '', False          # done: see library.py
 
     def parameters(self):
         return range(1, self.params + 1)
@@ -261,6 +274,8 @@ def operands(value):
         return (value.operand,)
     if isinstance(value, Binary):
         return (value.left, value.right)
+    if isinstance(value, Choice):
+        return (value.test, value.then, value.other)
     if isinstance(value, Offset):
         return (value.pointer, value.count)
     if isinstance(value, Load):
@@ -278,6 +293,8 @@ def with_operands(value, change):
         return replace(value, operand=change(value.operand))
     if isinstance(value, Binary):
         return Binary(value.op, change(value.left), change(value.right))
+    if isinstance(value, Choice):
+        return Choice(change(value.test), change(value.then), change(value.other))
     if isinstance(value, Offset):
         return Offset(change(value.pointer), change(value.count))
     if isinstance(value, Load):

@@ -19,6 +19,7 @@ from c_types import Types, c_name
 from fold import fold, simplify
 from forms import Block, Call, Stop, statements
 from inline import inline
+from library import put_in_place
 from pointers import infer_pointers
 from reader import Program
 from words import join_words
@@ -48,7 +49,8 @@ HEAD = '''/*
 
 class Generator:
     def __init__(self, options):
-        self.options, self.program, self.field_names = options, Program(options.rlib), {}
+        self.options, self.field_names = options, {}
+        self.program = Program(options.rlib, options.kit, self.described)
         self.imported = {}                              # path -> what another C file has
         self.results = dict(pair.split('=') for pair in options.result)
 
@@ -59,7 +61,7 @@ class Generator:
         if name in state:
             raise Stop(f'{name}: recursion')
         state[name] = 'open'
-        self.read_crate(name.split('::')[0])
+        self.in_place(name)
         for statement in statements(self.program.function(name).body):
             if isinstance(statement, Call):
                 self.reach(statement.name, treat, state)
@@ -71,10 +73,15 @@ class Generator:
         except (LookupError, TypeError, ValueError, AttributeError) as error:
             raise Stop(f'{name}: a form that is not handled ({error!r})')
 
-    def read_crate(self, crate):
-        if crate not in self.program.crates:
-            self.program.crate(crate)
-            sources.describe(self.options.source, crate, self.program.functions, self.field_names)
+    def described(self, crate):
+        """What the sources say of a crate that is read."""
+        self.field_names.update(sources.fields(self.options.source, crate))
+        return sources.described(self.options.source, crate)
+
+    def in_place(self, name):
+        """The library's functions in place of their calls, before anything else is done with the function."""
+        if name not in self.imported:
+            put_in_place(self.program, self.program.function(name))
 
     def prepare(self, function):
         """The passes; without them (--no-passes) every temporary and call stays as the prover has it."""
@@ -91,7 +98,7 @@ class Generator:
     def read_imports(self):
         """A function that another C file has loses its body, so that it is neither copied nor put in place of its calls."""
         for crate in self.options.imports:
-            self.read_crate(crate)
+            self.program.crate(crate)
             for export in sources.exports(self.options.source, crate):
                 self.imported[export.path] = export
                 self.program.function(export.path).body = (Block(()),)
@@ -100,15 +107,16 @@ class Generator:
         exported = []
         self.read_imports()
         for crate in self.options.export:
-            self.read_crate(crate)
+            self.program.crate(crate)
             found = sorted(sources.exports(self.options.source, crate), key=lambda export: export.name)
             if not found:
                 raise Stop(f'crate {crate} exports nothing')
             exported += found
         self.pass_over(exported, self.prepare)
-        for name in list(self.program.shapes):
-            self.read_crate(name.split('::')[0])
-        types = Types(self.program.shapes, self.field_names)
+        for head in list(self.program.declared):
+            if not head.startswith('('):
+                self.program.crate(head.split('::')[0])
+        types = Types(self.program.shapes, self.field_names, self.program.heads)
         out = FunctionText(types, self.program)
         names = {}
 
@@ -120,7 +128,7 @@ class Generator:
             else:
                 out.function(function)
         self.pass_over(exported, write)
-        signed_fields = {field for crate in self.program.crates for field in sources.signed_fields(self.options.source, crate)}
+        signed_fields = {field for crate in self.program.crates - self.program.library for field in sources.signed_fields(self.options.source, crate)}
         for export in exported:
             try:
                 out.exported(self.program.function(export.path), export, self.results, signed_fields)
@@ -144,6 +152,7 @@ def main():
     parser = argparse.ArgumentParser(description='Makes one portable C99 file of the proved program.')
     parser.add_argument('--rlib', required=True, help='folder of the crates, with what the prover has built of each')
     parser.add_argument('--source', required=True, help='folder of the crates, for exported names and comments')
+    parser.add_argument('--kit', help="the toolchain's folder, which has the library's proved programs; that of the command rt if not given")
     parser.add_argument('--export', required=True, action='append', help='crate whose extern "C" functions are exported; may be given again')
     parser.add_argument('--import', default=[], action='append', dest='imports',
                         help='crate whose extern "C" functions another C file has; may be given again')

@@ -51,8 +51,8 @@ class Inference:
             return self.target[place.base]
         if address and place.base in self.target and len(place.steps) == 1:
             return self.target[place.base]
-        t = self.types[place.base]
-        return t.item if address and not place.steps and isinstance(t, Array) else None
+        t = self.types[place.base] if not place.steps else getattr(place.steps[-1], 'target', None)
+        return t.item if address and isinstance(t, Array) else None
 
     def is_written(self, place):
         """Whether memory is written through a pointer that lies in this place."""
@@ -85,7 +85,8 @@ def infer_pointers(function):
             inference.written.add(to.base)
     while inference.step():
         pass
-    for local in sorted(inference.raw):
+    mentioned = {place.base for place in all_places(function.body)}
+    for local in sorted(inference.raw & mentioned):
         if local not in inference.target:
             raise Stop(f'pointer local {local} has no type')
         function.types[local] = Ref(local in inference.written, inference.target[local])

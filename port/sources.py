@@ -46,21 +46,21 @@ def signed_fields(folder, crate):
                 yield f'{module}::{name}', field
 
 
-def describe(folder, crate, functions, field_names):
-    """Gives the crate's functions the names and comments of their sources."""
+def described(folder, crate):
+    """Path of each function of a crate -> the names of its parameters in the source, none where one cannot be used, and its comment."""
+    out = {}
     for module, text in modules(folder, crate):
         for comment, _, _, _, name, params, _ in FUNCTION.findall(text):
-            function = functions.get(f'{module}::{name}')
             names = re.findall(r'(\w+)\s*:', params)
-            if function and len(names) == function.params and usable(names):
-                function.names[1:function.params + 1] = names
-            if function:
-                words = ' '.join(line[2:].strip() for line in comment.splitlines())
-                function.comment = words.replace('*/', '* /').replace('/*', '/ *')
-        for name, fields in STRUCT.findall(text):
-            names = re.findall(r'^\s*(?:pub )?(\w+)\s*:', fields, re.M)
-            if usable(names):
-                field_names[f'{module}::{name}'] = names
+            words = ' '.join(line[2:].strip() for line in comment.splitlines())
+            out[f'{module}::{name}'] = names if usable(names) else (), words.replace('*/', '* /').replace('/*', '/ *')
+    return out
+
+
+def fields(folder, crate):
+    """Path of each struct of a crate -> the names of its fields."""
+    return {f'{module}::{name}': names for module, text in modules(folder, crate) for name, found in STRUCT.findall(text)
+            if usable(names := re.findall(r'^\s*(?:pub )?(\w+)\s*:', found, re.M))}
 
 
 def exports(folder, crate):

@@ -7,7 +7,7 @@ from c_text import C_BOOL, C_VOID, U64, CStruct
 from c_values import CValues, Value
 from helpers import HELPERS
 from terms import (FALSE, Head, Mem, Refused, State, called, filled, leaves_of, merge, negation, number, resized, same_shape, shaped,
-                   simple, sorts_of, symbols)
+                   simple, sorts_of, symbols, used_leaves)
 
 
 class CRun(CValues):
@@ -234,10 +234,13 @@ class CRun(CValues):
             return self.fill(state, *e.args.exprs)
         if name not in self.callees:
             raise Refused(f'a call of {name}, which is no function of the program')
-        callee, literals = self.callees[name]
-        leaves = []
-        for leaf in [leaf for value in self.arguments(state, e) for leaf in leaves_of(value)]:
+        callee, literals, shapes = self.callees[name]
+        leaves, values = [], self.arguments(state, e)
+        if len(values) != len(shapes):
+            raise Refused(f'a call of {name} with another number of arguments than the program has')
+        for leaf in [leaf for value in values for leaf in leaves_of(value)]:
             self.duty(state, f'an argument of {name} is not written', leaf[1] if leaf else FALSE)
+        for leaf in [leaf for value, shape in zip(values, shapes) for leaf in used_leaves(value, shape)]:
             leaves.append(simple(leaf[0] if leaf else z3.BoolVal(False)))
         for at, value in sorted(literals.items()):
             leaves.insert(at, value)

@@ -190,6 +190,8 @@ class CValues(Run):
         if isinstance(e, c_ast.TernaryOp):
             test = simple(self.truth(state, e.cond))
             a, b = self.expression(state.under(test), e.iftrue), self.expression(state.under(negation(test)), e.iffalse)
+            if a.truth is not None and b.truth is not None:
+                return Value(self.int, truth=choice(test, a.truth, b.truth))
             a, b, t = self.usual(state, a, b)
             return Value(t, choice(test, a.term, b.term))
         if isinstance(e, c_ast.CompoundLiteral):
@@ -322,6 +324,10 @@ class CValues(Run):
     def zero(self, t):
         if t == C_BOOL:
             return known(FALSE)
-        if not isinstance(t, CInt):
+        if self.c.is_slice(t):
+            return [known(number(0)), known(number(0))]
+        if isinstance(t, CStruct) and t.name in self.c.members and not self.c.is_array(t):
+            return [self.zero(u) for _, u in self.c.members[t.name]]
+        if not isinstance(t, (CInt, CPointer)):
             raise Refused('a part left out')
-        return known(number(0, t.bits))
+        return known(number(0, t.bits if isinstance(t, CInt) else 64))

@@ -3,7 +3,7 @@ tests with the same memory and equal values, and each duty, access and call of C
 import z3
 
 from solver import abstracted
-from terms import FALSE, Refused, conjunction, leaves_of, merge, number, same_shape, simple, sorts_of
+from terms import FALSE, Refused, conjunction, counting, fits, merge, number, same_shape, simple
 
 
 class Compare:
@@ -60,22 +60,21 @@ class Compare:
             self.prove((), f'{what}: reached under other tests', conjunction(a) == conjunction(b))
 
     def same_value(self, guard, what, value, other, shape, written=False):
-        """What the program has written, C has too, and it is equal. `written`: C has it in any case."""
-        count = len(sorts_of(shape))
-        ours, theirs = ([None] * count if value is None else leaves_of(value) for value in (value, other))
-        if len(ours) != count or len(theirs) != count:
+        """What the program has written, C has too, and it is equal. `written`: C has it in any case. Of an enum the fields of its variant count."""
+        if not fits(value, shape) or not fits(other, shape):
             raise Refused(f'{what}: another shape')
-        for x, y in zip(ours, theirs):
+        for (x, counts), (y, _) in zip(counting(value, shape), counting(other, shape)):
             if written:
                 self.prove(guard, f'{what}: not written in C', y[1] if y else FALSE)
             if x is None:
                 continue
+            there = simple(z3.And(counts, x[1]))
             if y is None:
-                self.prove(guard, f'{what}: not written in C', z3.Not(x[1]))
-            elif x[0].sort() != y[0].sort():
+                self.prove(guard, f'{what}: not written in C', z3.Not(there))
+            elif not z3.is_expr(x[0]) or x[0].sort() != y[0].sort():
                 raise Refused(f'{what}: another width')
             else:
-                self.prove(guard, what, z3.Implies(x[1], z3.And(y[1], x[0] == y[0])))
+                self.prove(guard, what, z3.Implies(there, z3.And(y[1], x[0] == y[0])))
 
     def same_arrival(self, what, a, b):
         if (a is None) != (b is None):

@@ -35,7 +35,8 @@ class File:
         self.c = read_c(words.path, include, target)
         exports = {name: export for crate in words.all('--export') for name, export in exported(source, crate).items()}
         self.imports = {export.path: export for crate in words.all('--import') for export in exported(source, crate).values()}
-        self.matcher = Matcher(program, self.c, source)
+        reached = program.reach([export.path for export in exports.values()] + list(self.imports))
+        self.matcher = Matcher(program, self.c, source, reached)
         self.headers = Headers(program, self.c, source, exports, {export.name: export for export in self.imports.values()})
         self.exports = exports
 

@@ -81,7 +81,8 @@ def with_calls(matcher, solver, name, calls):
     unused = set(shapes) - {locals_of.get(variable) for variable in declared_in(c.functions[name].body)} - used_locals(f.body)
     for _ in range(TURNS):
         calls.theirs = CRun(c, name, way.parameters, locals_of, callees, shapes, dead, written)
-        ours = ProgramRun(program, way.name, calls.in_place, way.fixed, c.target.size_bits, written, unused)
+        kept = {locals_of[variable] for variable in calls.theirs.memory}
+        ours = ProgramRun(program, way.name, calls.in_place, way.fixed, c.target.size_bits, written, unused, kept)
         compare = Compare(solver, ours, calls.theirs)
         try:
             compare.run()

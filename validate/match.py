@@ -15,16 +15,16 @@ class Match:
 
 
 def c_name(name):
-    return name.replace('::', '__')
+    return name.replace('::', '__').replace('+', '_')
 
 
 class Matcher:
     """Names of the C file's own functions: `copies` of the program's, `exported` ones, and `helpers`."""
 
-    def __init__(self, program, c, source):
+    def __init__(self, program, c, source, reached=()):
         self.program, self.c, self.source = program, c, source
         self.by_name, self.copies, self.exported, self.helpers = {}, {}, [], []
-        for name in program.functions:
+        for name in {**dict.fromkeys(program.own), **dict.fromkeys(reached)}:
             if self.by_name.setdefault(c_name(name), name) != name:
                 raise Refused(f'{name}: two functions of this name in C')
         if any(name in HELPERS and not (name in c.own and c.is_static(name)) for name in c.functions):
@@ -79,8 +79,12 @@ class Matcher:
                 yield Match(f.name, {i: value for i, (_, value) in zip(chosen, numbers)}, rest)
 
     def callees(self, called):
-        """C name -> (the program's function, the literal leaves by their place), of those that are called."""
-        return {name: (self.copies[name].name, self.literal_leaves(self.copies[name])) for name in called if name in self.copies}
+        """C name -> (the program's function, the literal leaves by their place, the shapes of the other arguments), of those that are called."""
+        return {name: (self.copies[name].name, self.literal_leaves(self.copies[name]), self.shapes(self.copies[name])) for name in called if name in self.copies}
+
+    def shapes(self, match):
+        f = self.program.get(match.name)
+        return [self.program.shape(f.types[i]) for i in f.parameters() if i not in match.fixed and f.types[i] != 'Unit']
 
     def literal_leaves(self, match):
         f, at, out = self.program.get(match.name), 0, {}

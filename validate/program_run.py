@@ -7,22 +7,35 @@ lie in one block of memory.
 import z3
 
 from program import bodies, literal, only
-from terms import (BOOL, TRUE, Head, Refused, Run, State, bytes_of, called, count_ones, either, filled, array_sort, known, leading_zeros,
+from terms import (BOOL, FALSE, TRUE, Head, Refused, Run, State, bytes_of, called, count_ones, either, filled, array_sort, known, leading_zeros,
                    leaves_of, literal_of, merge, negation, number, read, read_array, resized, same_shape, shaped, sign_extended, signed_order,
-                   signed_quotient, signed_remainder, simple, sorts_of, symbols, trailing_zeros, widened, Mem)
+                   signed_quotient, signed_remainder, simple, sorts_of, symbols, trailing_zeros, used_leaves, widened, Mem)
 
 DEEPEST = 12        # functions put in place of their calls inside each other
+
+
+class Borrow:
+    """The address of a value that is held as one, not in memory: of a part of a local, in the run of a function in place of its call or of the whole. It is
+    never a term: it can be passed on to functions in place and followed, no more."""
+
+    def __init__(self, key, path):
+        self.key, self.path = key, path
+
+    def eq(self, other):
+        return isinstance(other, Borrow) and (self.key, self.path) == (other.key, other.path)
 
 
 class ProgramRun(Run):
     """`in_place(name, literals, guard, leaves)`: whether a call is run in place, since C has no such call; the last two are None where the
     run has not got there. `fixed`: parameters that are literals. `written`: loops at whose heads memory is anything in any case. `unused`:
-    locals in memory that are only assigned, which C leaves out: nothing reaches a block whose address nobody has."""
+    locals in memory that are only assigned, which C leaves out: nothing reaches a block whose address nobody has. `kept`: the locals that C has in memory too;
+    the others are held as values, and their addresses are Borrows."""
 
-    def __init__(self, program, name, in_place, fixed, size_bits, written=frozenset(), unused=frozenset()):
+    def __init__(self, program, name, in_place, fixed, size_bits, written=frozenset(), unused=frozenset(), kept=None):
         super().__init__()
-        self.program, self.in_place, self.size_bits, self.written, self.unused = program, in_place, size_bits, written, unused
+        self.program, self.in_place, self.size_bits, self.written, self.unused, self.kept = program, in_place, size_bits, written, unused, kept
         self.f, self.depth, self.counts = program.get(name), 0, {}
+        self.frame, self.functions, self.inside = 0, [self.f], []   # the run that goes on; the functions of all; how many there were at the loop around
         self.result = self.f.types[0]
         values = {i: self.argument(i, fixed) for i in self.f.parameters()}
         state = State((), values, z3.Const('memory', Mem))
@@ -49,6 +62,14 @@ class ProgramRun(Run):
             else:
                 for part in constant:
                     pointer = self.write_leaf(state, pointer, self.operand(state, part)[0])
+
+    def key(self, i):
+        """Where a state has the local: those of functions in place beside those of the whole."""
+        return (self.frame, i) if self.frame else i
+
+    def is_held(self, i):
+        """Whether a local in memory is held as a value: C has no such variable."""
+        return self.f.in_memory(i) and not self.f.is_array(i) and self.kept is not None and (self.frame > 0 or i not in self.kept)
 
     def address(self, i):
         return z3.Const(f'address {self.depth} {i}', z3.BitVecSort(64))
@@ -85,8 +106,26 @@ class ProgramRun(Run):
         if kind == 'Exit':
             around[-1 - statement[1]].append(state)
             return None
+        if kind == 'Constant':
+            self.lend_value(state, statement[1], statement[2])
+            return state
+        if kind == 'Unreachable':
+            self.fact(state, FALSE)
+            return None
         self.returns.append(state)
         return None
+
+    def lend_value(self, state, local, constant):
+        """A constant that is no array, held as a value: an address that leads there."""
+        key = self.frame, 'constant', local
+        state.locals[key] = self.constant(constant)
+        self.store(state, {'local': local, 'steps': []}, known(Borrow(key, ())))
+
+    def constant(self, constant):
+        kind, content = only(constant)
+        if kind == 'Bool':
+            return known(z3.BoolVal(content))
+        return list(map(self.constant, content)) if kind == 'Parts' else self.operand(None, constant)
 
     def switch(self, state, operand, arms, around):
         """Arm by arm as `if`s; an arm that the value decides is the last one, and one that it rules out is left out."""
@@ -117,7 +156,9 @@ class ProgramRun(Run):
         if memory:
             turn.memory = z3.Const(f'loop {n} memory', Mem)
         again = []
+        self.inside.append(len(self.functions) - 1)
         end = self.body(body, turn, around + [again])
+        self.inside.pop()
         head.back = merge(again + [end])
         return None
 
@@ -127,7 +168,8 @@ class ProgramRun(Run):
         for statement in body:
             if statement[0] in ('Assign', 'Call'):
                 place = statement[1] if statement[0] == 'Assign' else statement[3]
-                if f.in_memory(place['local']) or any('Deref' in step for step in place['steps']):
+                held = f is self.f and self.is_held(place['local']) or f is not self.f and not f.is_array(place['local'])
+                if f.in_memory(place['local']) and not held or any('Deref' in step for step in place['steps']):
                     memory = True
                 else:
                     changed.add(place['local'])
@@ -148,21 +190,24 @@ class ProgramRun(Run):
     def locate(self, state, place):
         i, variant = place['local'], None
         t = self.f.types[i]
-        at = ('memory', self.address(i)) if self.f.in_memory(i) else ('value', i, ())
+        at = ('memory', self.address(i)) if self.f.in_memory(i) and not self.is_held(i) else ('value', self.key(i), ())
         for step in place['steps']:
             kind, content = only(step)
             if kind == 'Deref':
-                at, t = ('memory', self.fetch(state, at, t)[0]), content
+                pointer = self.fetch(state, at, t)[0]
+                at, t = ('value', pointer.key, pointer.path) if isinstance(pointer, Borrow) else ('memory', pointer), content
             elif kind == 'Variant':
                 variant = content
             elif kind == 'Field' and at[0] == 'value':
                 index, t = self.program.field(t, variant, content)
-                at = ('value', at[1], at[2] + (index,))
+                at = ('value', at[1], at[2] + (index,)) if index is not None else ('unit',)
             else:
                 raise Refused(f'the program has a step {kind} in memory')
         return at, t
 
     def fetch(self, state, at, t):
+        if at[0] == 'unit' or t == 'Unit':
+            return []
         if at[0] == 'memory':
             return self.fetch_memory(state, at[1], self.program.shape(t))
         value = state.locals.get(at[1])
@@ -173,6 +218,15 @@ class ProgramRun(Run):
         if self.program.is_slice(t):
             self.slice_there(state, value)
         return value
+
+    def type_of(self, key):
+        frame, i = key if isinstance(key, tuple) else (0, key)
+        return self.functions[frame].types[i]
+
+    def written_behind(self, key):
+        """A value that was there before a loop began is what it is at the loop's head; so it must not be written behind its address there."""
+        if self.inside and (key[0] if isinstance(key, tuple) else 0) <= self.inside[-1]:
+            raise Refused('a value is written behind its address in a loop')
 
     def fetch_memory(self, state, pointer, shape):
         if isinstance(shape, list):
@@ -207,14 +261,18 @@ class ProgramRun(Run):
             self.fact(state, z3.ULT(length, number(1 << self.size_bits)))
 
     def store(self, state, place, value):
-        at, _ = self.locate(state, place)
+        at, t = self.locate(state, place)
+        if at[0] == 'unit' or t == 'Unit':
+            return
         if at[0] == 'memory':
             pointer = at[1]
             for leaf in leaves_of(value):
                 self.reached(state, pointer)
                 pointer = self.write_leaf(state, pointer, leaf[0])
         else:
-            state.locals[at[1]] = self.updated(state.locals.get(at[1]), at[2], value, self.program.shape(self.f.types[at[1]]))
+            if any('Deref' in step for step in place['steps']):
+                self.written_behind(at[1])
+            state.locals[at[1]] = self.updated(state.locals.get(at[1]), at[2], value, self.program.shape(self.type_of(at[1])))
 
     def updated(self, old, path, value, shape):
         if not path:
@@ -230,6 +288,8 @@ class ProgramRun(Run):
         if not self.depth and place['local'] in self.unused:
             return state
         t = self.locate(state, place)[1]
+        if t == 'Unit':
+            return state
         shape = self.program.shape(t)
         if isinstance(shape, tuple) and kind in ('Repeat', 'Aggregate'):
             self.assign_array(state, place, shape, kind, content)
@@ -265,10 +325,7 @@ class ProgramRun(Run):
         if kind == 'Opd':
             return self.operand(state, content)
         if kind == 'AddrOf':
-            at, _ = self.locate(state, content)
-            if at[0] != 'memory':
-                raise Refused('the program takes the address of a value')
-            return known(at[1])
+            return known(self.address_of(state, content))
         if kind == 'Aggregate':
             return self.aggregate(state, [self.operand(state, part) for part in content], content, t)
         if kind == 'Op1':
@@ -277,15 +334,27 @@ class ProgramRun(Run):
             return known(self.binary(state, content[0], self.operand(state, content[1])[0], self.operand(state, content[2])[0]))
         raise Refused(f'value {kind}')
 
+    def address_of(self, state, place):
+        """A term, or a Borrow of what is held as a value."""
+        at, _ = self.locate(state, place)
+        if at[0] == 'memory':
+            return at[1]
+        base = place['local']
+        if at[0] != 'value' or not any('Deref' in step for step in place['steps']) and not self.is_held(base):
+            raise Refused('the program takes the address of a value')
+        return Borrow(at[1], at[2])
+
     def aggregate(self, state, parts, content, t):
         if self.program.is_slice(t):
             self.slice_there(state, parts)
         if not self.program.is_enum(t):
-            return parts
+            types = only(self.program.declaration(t))[1] if 'Named' in t else [None] * len(parts)
+            return [part for part, u in zip(parts, types) if u != 'Unit']
         tag, slots = literal(content[0]), self.program.slots(t)
         out = [known(number(tag, 8))] + [None] * len(slots)
-        for slot, part in zip(enumerate(self.program.declared[self.program.named(t)]['Variants'][tag]), parts[1:]):
-            out[1 + slots.index(slot)] = part
+        for slot, part in zip(enumerate(self.program.declaration(t)['Variants'][tag]), parts[1:]):
+            if slot[1] != 'Unit':
+                out[1 + slots.index(slot)] = part
         return out
 
     def unary(self, state, op, x):
@@ -328,6 +397,8 @@ class ProgramRun(Run):
             return z3.ULT(x, y) if name == 'Lt' else z3.ULE(x, y)
         if name in ('Div', 'Rem'):
             return self.division(state, name, sign, x, y)
+        if sign is None and name in ('WrapAdd', 'WrapSub', 'WrapMul'):
+            return {'WrapAdd': x + y, 'WrapSub': x - y, 'WrapMul': x * y}[name]
         if name in ('Add', 'Sub', 'Mul'):
             return self.sum(state, name, sign, x, y)
         raise Refused(f'operation {op}')
@@ -352,12 +423,12 @@ class ProgramRun(Run):
 
     def call(self, state, name, args, place):
         f, values = self.program.get(name), [self.operand(state, a) for a in args]
-        leaves = self.leaves(values)
-        if self.in_place(name, [literal_of(v[0]) if isinstance(v, tuple) else None for v in values], state.guard, leaves):
+        leaves = self.leaves(state, f, values)
+        if self.in_place(name, [literal_of(v[0]) if isinstance(v, tuple) and not isinstance(v[0], Borrow) else None for v in values], state.guard, leaves):
             result = self.run_in_place(state, f, values)
         else:
             if leaves is None:
-                raise Refused('the program has an argument that is not written in every case')
+                raise Refused('the program has an argument that is not written, or the address of a value')
             self.calls.append((state.guard, name, leaves, state.memory))
             shape = self.program.shape(f.types[0])
             results, state.memory = called(name, leaves, state.memory, sorts_of(shape))
@@ -367,22 +438,30 @@ class ProgramRun(Run):
         return state
 
     def run_in_place(self, state, f, values):
+        """The function's body, its locals beside those that there are."""
         if self.depth == DEEPEST:
             raise Refused('functions in place of their calls too deep')
         if f.lent:
             raise Refused('a constant lent in a function that C has in place')
-        kept, self.f, self.returns, self.depth = (self.f, self.returns), f, [], self.depth + 1
-        self.body(f.body, State(state.guard, dict(enumerate(values, 1)), state.memory), [])
+        kept, self.f, self.returns, self.depth = (self.f, self.returns, self.frame), f, [], self.depth + 1
+        self.functions.append(f)
+        self.frame = frame = len(self.functions) - 1
+        self.body(f.body, State(state.guard, {**state.locals, **{(frame, i): value for i, value in enumerate(values, 1)}}, state.memory), [])
         end = merge(self.returns)
-        (self.f, self.returns), self.depth = kept, self.depth - 1
+        (self.f, self.returns, self.frame), self.depth = kept, self.depth - 1
         if end is None:
             raise Refused('a function in place that does not return')
         state.memory = end.memory
-        return end.locals.get(0) if f.types[0] != 'Unit' else []
+        state.locals.clear()
+        state.locals.update({key: value for key, value in end.locals.items() if not isinstance(key, tuple) or key[0] != frame})
+        return end.locals.get((frame, 0)) if f.types[0] != 'Unit' else []
 
-    def leaves(self, values):
-        """The leaves of a call's arguments, or None if one is not written in every case."""
-        leaves = [leaf for value in values for leaf in leaves_of(value)]
-        if any(leaf is None or not z3.is_true(simple(leaf[1])) for leaf in leaves):
+    def leaves(self, state, f, values):
+        """The leaves of a call's arguments, or None if one is never written, or is no term. What is read was written."""
+        shapes = [self.program.shape(f.types[i]) for i in f.parameters()]
+        leaves = [leaf for shape, value in zip(shapes, values) for leaf in used_leaves(value, shape)]
+        if any(leaf is None or isinstance(leaf[0], Borrow) for leaf in leaves):
             return None
+        for leaf in leaves:
+            self.fact(state, leaf[1])
         return [simple(leaf[0]) for leaf in leaves]

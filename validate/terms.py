@@ -45,7 +45,11 @@ def negation(test):
 
 
 def choice(test, a, b):
-    return a if a.eq(b) else z3.If(test, a, b)
+    if a is b or type(a) is type(b) and a.eq(b):
+        return a
+    if not z3.is_expr(a) or not z3.is_expr(b):
+        raise Refused('two addresses of values meet')
+    return z3.If(test, a, b)
 
 
 def bits_of(test, width):
@@ -199,7 +203,15 @@ def leaves_of(value):
     return [value]
 
 
-# ---- shapes: a sort, a list of shapes, or ('array', sort of an item, count)
+# ---- shapes: a sort, a list of shapes, an Enum, or ('array', sort of an item, count)
+
+class Enum(list):
+    """An enum: its tag and a place for each field. `uses`: for each field the tags of the variants that have it; under others it holds nothing."""
+
+    def __init__(self, shapes, uses):
+        super().__init__(shapes)
+        self.uses = uses
+
 
 def same_shape(a, b):
     """Sorts may only be compared with sorts."""
@@ -208,6 +220,50 @@ def same_shape(a, b):
     if isinstance(a, tuple) or isinstance(b, tuple):
         return isinstance(a, tuple) and isinstance(b, tuple) and a[2:] == b[2:] and same_shape(a[1], b[1])
     return a == b
+
+
+def fits(value, shape):
+    """Whether a value, or the parts of it that were written, has this shape."""
+    if value is None:
+        return True
+    if isinstance(shape, list):
+        return isinstance(value, list) and len(value) == len(shape) and all(map(fits, value, shape))
+    return not isinstance(value, list)
+
+
+def counting(value, shape):
+    """(leaf, test) of each leaf of a value: under which it counts. The place of an enum's field counts where the tag is that of a variant that has it."""
+    if isinstance(shape, Enum):
+        value = value or [None] * len(shape)
+        out = [(value[0], TRUE)]
+        for part, inner, tags in zip(value[1:], shape[1:], shape.uses):
+            used = FALSE if value[0] is None else simple(z3.Or(*[value[0][0] == tag for tag in sorted(tags)]))
+            out += [(leaf, simple(z3.And(used, test))) for leaf, test in counting(part, inner)]
+        return out
+    if isinstance(shape, list):
+        return [pair for part, inner in zip(value or [None] * len(shape), shape) for pair in counting(part, inner)]
+    return [(value, TRUE)]
+
+
+def used_leaves(value, shape):
+    """The leaves of a value, 0 where one does not count; written there."""
+    out = []
+    for (leaf, test), sort in zip(counting(value, shape), sorts_of(shape)):
+        if z3.is_true(test):
+            out.append(leaf)
+        elif z3.is_false(test):
+            out.append(known(nothing(sort)))
+        elif leaf is None:
+            out.append((nothing(sort), z3.Not(test)))
+        else:
+            out.append((choice(test, leaf[0], nothing(sort)), z3.Implies(test, leaf[1])))
+    return out
+
+
+def nothing(sort):
+    if sort == BOOL:
+        return FALSE
+    return number(0, sort.size()) if isinstance(sort, z3.BitVecSortRef) else z3.Const(f'nothing {sort}', sort)
 
 
 def sorts_of(shape):

@@ -47,9 +47,9 @@ FAULTS = [
     ('c_types.py', "f'{c} {name}'", "f'{c} {name}' + (' : 32' if c == 'uint64_t' else '')", 'dist/kagutin_hours.c'),
     # names, types and reading
     ('reader.py', "signed=sign[:2] == ['Signed', 'Signed']", "signed=sign[:2] != ['Signed', 'Signed']", 'random'),
-    ('reader.py', "arms.append((None, read_body(tokens)))", "arms.insert(0, (tuple(content[1][-1]), read_body(tokens)))", 'random'),
-    ('sources.py', "field_names[f'{module}::{name}'] = names", "field_names[f'{module}::{name}'] = names[::-1]", 'dist/kagutin_inflow.c'),
-    ('sources.py', "function.names[1:function.params + 1] = names", "function.names[1:function.params + 1] = names[::-1]", 'dist/kagutin_inflow.c'),
+    ('reader.py', "arms.append((None, self.body(tokens)))", "arms.insert(0, (tuple(content[1][-1]), self.body(tokens)))", 'random'),
+    ('sources.py', "': names for module, text", "': names[::-1] for module, text", 'dist/kagutin_inflow.c'),
+    ('reader.py', "function.names[1:function.params + 1] = names", "function.names[1:function.params + 1] = names[::-1]", 'dist/kagutin_inflow.c'),
     ('c_functions.py', "parts.append(f'.{n} = ({self.types.c(u)})r.{n}')", "parts.append(f'.{n} = ({self.types.c(u)})r.code')", 'dist/kagutin_hours.c'),
     ('c_functions.py', "args += [f'{n}.ptr', f'{n}.len']", "args += [f'{n}.ptr', f'{n}.len - 1u']", 'dist/kagutin_hours.c'),
     # branches that give one number
