@@ -19,6 +19,12 @@ uint64_t bit(void);
 uint64_t inverse(void);
 uint64_t copies(uint64_t x, uint64_t n);
 uint64_t marks(uint64_t n);
+uint64_t refused(uint64_t a, uint64_t b);
+uint64_t found(uint64_t a, uint64_t b);
+uint64_t variants(uint64_t a, uint64_t b);
+uint64_t instances(uint8_t a, uint16_t b);
+uint64_t sums(uint64_t a, uint64_t b, uint16_t c);
+uint64_t slices(uint8_t *bytes, size_t bytes_size, size_t n);
 '''
 BUILDS = (['-O0'], ['-O2'], ['-O2', '-DKAGUTIN_PLAIN_C'])
 WARN = ['-std=c99', '-fPIC', '-shared', '-Wall', '-Wextra', '-Werror', '-Wno-unused-function']
@@ -58,8 +64,71 @@ def marks(n):
     return 0x4241 ^ 0xff00 if n < 3 else (0x44434241 | n << 32) & ALL
 
 
+def both_right(a, b):
+    """A number, or the name of a refusal."""
+    return 'Length' if a >= 8 else 'Order' if b < 8 else 'Writer' if b == 60 else b // 2 + 1
+
+
+def refused(a, b):
+    c = both_right(a, b)
+    if isinstance(c, int):
+        return c ^ (c & 7) << 20 ^ min(c, 255) << 40
+    code = {'Length': 1, 'Order': 2, 'Writer': 4}[c]
+    return 1000 ^ code ^ (300 if c == 'Length' else 400 ^ code) << 20 ^ 5 << 40
+
+
+def found(a, b):
+    return a - 3 if a >= 3 else 7000 if b == 0 else (b - 1 ^ (b - 3 if b >= 3 else 3) << 8) & ALL
+
+
+def make_item(a, b):
+    return [('Nothing',), ('One', b), ('Two', b, 4)][a] if a < 3 else ('Flag', b == 3)
+
+
+def held(item):
+    return {'Nothing': lambda: 5, 'One': lambda a: a, 'Two': lambda a, b: a ^ b, 'Flag': lambda is_set: 10 ^ is_set}[item[0]](*item[1:])
+
+
+def make_why(a):
+    return 'Length' if a < 3 else 'Order' if a == 3 else 'Writer'
+
+
+def variants(a, b):
+    first, second = make_item(a, b), make_item(b, a)
+    r = (first == second) | (first != ('One', 7)) << 1 | (a == b and make_why(a) == make_why(b)) << 2 | (make_why(a) == 'Order') << 3
+    return (r ^ held(first) << 8 ^ held(second) << 24) & ALL
+
+
+def table(count, x):
+    total = 0
+    for _ in range(count):
+        total = total * 3 + x
+    return total ^ count
+
+
+def instances(a, b):
+    measured = (a << 4 | 1) << 32 ^ (b << 8 | 2) << 40
+    return (table(3, a) ^ table(5, a) << 16 ^ measured ^ (b == 9) ^ (b == 3) << 1) & ALL
+
+
+def sums(a, b, c):
+    first = (min(a, b) + max(b, 3) - a) * 5
+    second = max(a - b, 0) ^ max(c - 4, 0) ^ min(a + b, ALL)
+    third = (c + 1) % 65536 ^ min((c - 9) % 65536, 40000) ^ abs(a - b)
+    return (first ^ second ^ third ^ (a % 4 == 0)) & ALL
+
+
+def slices(data, n):
+    first, other = data[0] if data else 300, data[n] if n < len(data) else 400
+    return first ^ other << 10 ^ (not data) << 20 ^ (9 if n < len(data) else 500) << 30
+
+
 NUMBERS = [*range(80), 1 << 32, 1 << 63, ALL]
 CASES = [(branch, [(n,) for n in NUMBERS]), (branches, [(n,) for n in NUMBERS]), (marks, [(n,) for n in NUMBERS]), (copies, [(x, n) for x in (0, 1, 2) for n in NUMBERS])]
+PAIRS = [(a, b) for a in (*range(12), 60, 255, 1 << 40, ALL - 1, ALL) for b in (*range(12), 60, 61, 600, 1 << 63, ALL)]
+CASES += [(f, PAIRS) for f in (refused, found, variants)]
+CASES += [(instances, [(a, b) for a in (0, 1, 7, 255) for b in (0, 2, 3, 4, 9, 65535)]), (sums, [(a, b, c) for a, b in PAIRS for c in (0, 4, 8, 40008, 65535)])]
+SLICES = [(data, n) for data in (b'', b'\x07', bytes(range(200, 209))) for n in (0, 1, 8, 9, 1 << 40)]
 CONSTANTS = {'minus': ALL, 'bit': 1 << 40, 'inverse': ALL - 1}
 
 
@@ -82,7 +151,13 @@ def check(library, how):
         got = called(library, name, args)
         if got != want:
             sys.exit(f'translated.py: FAILED: {name}{args} is {got}, not {want} ({" ".join(how)})')
-    return len(calls)
+    for data, n in SLICES:
+        memory = ctypes.create_string_buffer(data, len(data) + 1)
+        library.slices.restype = ctypes.c_uint64
+        got = library.slices(memory, ctypes.c_size_t(len(data)), ctypes.c_size_t(n))
+        if got != slices(data, n) or memory.raw != b'\x09' * len(data) + b'\x00':
+            sys.exit(f'translated.py: FAILED: slices of {data} at {n} is {got}, and leaves {memory.raw} ({" ".join(how)})')
+    return len(calls) + len(SLICES)
 
 
 def main():
