@@ -4,6 +4,7 @@ Names and comments are for the reader of the C file and change no code; a name t
 """
 import os
 import re
+import textwrap
 from dataclasses import dataclass
 
 from forms import Stop
@@ -12,6 +13,7 @@ KEYWORDS = set('auto break case char const continue default do double else enum 
                'restrict return short signed sizeof static struct switch typedef union unsigned void volatile while bool true '
                'false asm typeof'.split())
 FUNCTION = re.compile(r'((?:^//.*\n)*)((?:^#\[.*\n)*)^(pub )?(extern "C" )?fn (\w+)(?:<[^>]*>)?\(([^)]*)\)(?: -> (\S+))?', re.M)
+IMPL = re.compile(r'^impl(?:<[^>]*>)? (\w+)(?:<[^>]*>)? \{\n(.*?)^\}', re.M | re.S)
 STRUCT = re.compile(r'^(?:pub )?struct (\w+)(?:<[^>]*>)? \{(.*?)^\}', re.M | re.S)
 
 
@@ -49,9 +51,11 @@ def signed_fields(folder, crate):
 def described(folder, crate):
     """Path of each function of a crate -> the names of its parameters in the source, none where one cannot be used, and its comment."""
     out = {}
-    for module, text in modules(folder, crate):
+    texts = list(modules(folder, crate))
+    texts += [(f'{module}::{name}', textwrap.dedent(methods)) for module, text in texts for name, methods in IMPL.findall(text)]
+    for module, text in texts:
         for comment, _, _, _, name, params, _ in FUNCTION.findall(text):
-            names = re.findall(r'(\w+)\s*:', params)
+            names = re.findall(r'(?:\bself\b)(?!\s*:)|\w+(?=\s*:)', params)
             words = ' '.join(line[2:].strip() for line in comment.splitlines())
             out[f'{module}::{name}'] = names if usable(names) else (), words.replace('*/', '* /').replace('/*', '/ *')
     return out

@@ -48,9 +48,9 @@ def parameter_names(folder, path):
     if not os.path.isdir(os.path.join(folder, module[0], 'src')):
         return None
     for found, text in source_files(folder, module[0]):
-        match = re.search(rf'\bfn {name}\s*(?:<[^>]*>)?\s*\(([^)]*)\)', text) if found == '::'.join(module) else None
+        match = re.search(rf'\bfn {name}\s*(?:<[^>]*>)?\s*\(([^)]*)\)', text) if found in ('::'.join(module), '::'.join(module[:-1])) else None
         if match:
-            return re.findall(r'(\w+)\s*:', match[1])
+            return re.findall(r'(?:\bself\b)(?!\s*:)|\w+(?=\s*:)', match[1])
     return None
 
 

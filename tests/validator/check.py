@@ -22,6 +22,7 @@ import time
 
 from subjects import ROOT, TARGETS, Failed, build, generate, machine_code, refusal, refusals, refused_somewhere, same_behaviour, text_of, write
 
+from enums import write_enums  # noqa: E402
 from equivalent import EQUIVALENT  # noqa: E402
 from faults import FAULTS  # noqa: E402
 from files import Words  # noqa: E402
@@ -56,17 +57,20 @@ class Tally:
 
 # ---- one task each: gives a tally, or raises Failed
 
-def random_program(seed, mutants):
+WRITERS = {'random': write_program, 'enums': write_enums}
+
+
+def random_program(seed, mutants, kind='random'):
     with tempfile.TemporaryDirectory() as folder:
-        words = write_program(folder, seed)
+        words = WRITERS[kind](folder, seed)
         program, target = Program(f'{folder}/crates'), TARGETS[seed % len(TARGETS)]
         path, plain = f'{folder}/random.c', f'{folder}/plain.c'
         for out, passes in ((path, ()), (plain, ('--no-passes',))):
             said = generate(os.path.join(ROOT, 'port'), words, out, *passes) or refusal(program, words, out, folder, target)
             if said:
-                raise Failed(f'random program {seed}, {target.name} {" ".join(passes)}: {said}')
+                raise Failed(f'{kind} program {seed}, {target.name} {" ".join(passes)}: {said}')
         if not same_behaviour(folder, path, plain, 'right'):
-            raise Failed(f'random program {seed}: with the passes and without, two behaviours')
+            raise Failed(f'{kind} program {seed}: with the passes and without, two behaviours')
         rng, tally, text = random.Random(seed), Tally(programs=1), text_of(path)
         tally.counts['functions'] = len(functions(text))
         for k in range(mutants):
@@ -79,9 +83,13 @@ def random_program(seed, mutants):
             elif same_behaviour(folder, path, f'{folder}/wrong.c', f'wrong{k}'):
                 outcome = 'do the same'
             else:
-                raise Failed(f'random program {seed}, {target.name}: {name} was accepted with {what}')
-            tally.add(f'random program {seed}', name, what, outcome)
+                raise Failed(f'{kind} program {seed}, {target.name}: {name} was accepted with {what}')
+            tally.add(f'{kind} program {seed}', name, what, outcome)
         return tally
+
+
+def enum_program(seed, mutants):
+    return random_program(seed, mutants, 'enums')
 
 
 def dist_edits(k):
@@ -169,10 +177,10 @@ def fault(k):
     file, old, new, subject = FAULTS[k]
     with tempfile.TemporaryDirectory() as folder:
         port = port_with(folder, file, old, new)
-        for seed in (1, 2) if subject == 'random' else (None,):
+        for seed in (1, 2) if subject in WRITERS else (None,):
             if seed:
                 part = os.path.join(folder, str(seed))
-                words, include, right, wrong = write_program(part, seed), part, f'{part}/right.c', f'{part}/wrong.c'
+                words, include, right, wrong = WRITERS[subject](part, seed), part, f'{part}/right.c', f'{part}/wrong.c'
                 generate(os.path.join(ROOT, 'port'), words, right)
             else:
                 words, include, right, wrong = given(subject), SHARED['include'], subject, os.path.join(folder, os.path.basename(subject))
@@ -185,14 +193,14 @@ def fault(k):
 
 # ---- all of them
 
-KINDS = {'random': (random_program, 'random programs with wrong edits'), 'dist': (dist_edits, 'times ten wrong edits of dist/'),
-         'trick': (trick, 'tricks in dist/'), 'joined': (joined_edit, 'wrong edits of the joined file'), 'fault': (fault, 'faults in port/')}
+KINDS = {'random': (random_program, 'random programs with wrong edits'), 'enums': (enum_program, 'such programs with enums and instances'),
+         'dist': (dist_edits, 'times ten wrong edits of dist/'), 'trick': (trick, 'tricks in dist/'), 'joined': (joined_edit, 'wrong edits of the joined file'), 'fault': (fault, 'faults in port/')}
 
 
 def tasks(quick, fresh):
     """(kind, arguments). The gate has fixed ones; the long form has more, and random programs of a new seed."""
     seeds, mutants = ([1, 2, 3], 8) if quick else ([932512, *range(1, 13), *range(fresh, fresh + 8)], 15)
-    return [('random', [seed, mutants]) for seed in seeds] + [('dist', [k]) for k in range(3 if quick else 30)] \
+    return [(kind, [seed, mutants]) for kind in WRITERS for seed in seeds] + [('dist', [k]) for k in range(3 if quick else 30)] \
         + [('trick', [k]) for k in range(len(TRICKS))] + [('joined', [k]) for k in range(len(JOINED))] \
         + [('fault', [k]) for k in range(0, len(FAULTS), 6 if quick else 1)]
 

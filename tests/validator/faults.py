@@ -1,5 +1,5 @@
 """Faults put into port/, one for each pass and form: (file, text, wrong text, the subject that shows it). The validator must refuse what
-the generator then makes. Subjects: a file of dist/ by its place in the makefiles' list, or 'random'."""
+the generator then makes. Subjects: a file of dist/ by its place in the makefiles' list, 'random', or 'enums' for random programs with enums."""
 
 FAULTS = [
     # the passes
@@ -55,4 +55,20 @@ FAULTS = [
     # branches that give one number
     ('wrap.py', "wrapping(value.left), wrapping(value.right))", "wrapping(value.right), wrapping(value.left))", 'dist/kagutin.c'),
     ('wrap.py', "'Add': 'WrapAdd', 'Sub': 'WrapSub'}", "'Add': 'WrapSub', 'Sub': 'WrapAdd'}", 'dist/kagutin.c'),
+    # enums, instances, and functions in place of their calls
+    ('library.py', "first[0][0])), first[1], second[1])", "first[0][0])), second[1], first[1])", 'enums'),
+    ('library.py', "return settled(Choice(statement.test, *values))", "return settled(Choice(statement.test, *values[::-1]))", 'enums'),
+    ('library.py', "return settled(Choice(statement.test, *values))", "return values[0]", 'enums'),
+    ('library.py', "replace(test, op='Ne' if test.op == 'Eq' else 'Eq')", "test", 'enums'),
+    ('library.py', "zip(callee.parameters(), call.args)", "zip(callee.parameters(), call.args[::-1])", 'enums'),
+    ('library.py', "joined([end for _, end in ways])", "ways[0][1]", 'enums'),
+    ('library.py', "for local in written_in(statement.body):", "for local in ():", 'enums'),
+    ('library.py', "            known.forget(to.base)\n", "", 'enums'),
+    ('library.py', "return next((body for keys, body in statement.arms if keys is None or value.value in keys), ())", "return statement.arms[0][1]", 'enums'),
+    ('reader.py', "self.number(content[0], self.argument(content[1]), form)", "self.number(content[0], self.argument(content[1]) + 1, form)", 'enums'),
+    ('reader.py', "name = '_'.join([head] + list(map(word, key[1])))\n", "name = '_'.join([head] + list(map(word, key[1])))\n        key = instances.get(name, key[:1] + ((5,),) + key[2:] if key[1] == (3,) else key)\n", 'enums'),
+    ('reader.py', "return Aggregate(tuple(map(self.constant, content)))", "return Aggregate((Int(8, 1),) + tuple(map(self.constant, content))[1:])", 'enums'),
+    ('c_types.py', "self.shape(t).variants[index], self.shape(t).variants", "self.shape(t).variants[-1 - index], self.shape(t).variants", 'enums'),
+    ('c_values.py', "'WrapMul': 'Mul'}", "'WrapMul': 'Add'}", 'enums'),
+    ('c_values.py', "({test} ? {wide}{x} : {y})', t", "({test} ? {wide}{y} : {x})', t", 'enums'),
 ]

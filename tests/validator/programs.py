@@ -350,6 +350,11 @@ def write_program(folder, seed):
     forms += [['random::short', short(rng)], ['random::branch', branch(rng)], ['random::crossed', crossed(rng)], ['random::by_width', by_width(rng)],
               ['random::lending', lending(random.Random(seed))]]
     forms += [[f'random::call_{k}', exported(rng)] for k in range(EXPORTED)]
+    return write_crate(folder, forms)
+
+
+def write_crate(folder, forms):
+    """The crate with these functions, its source and its header."""
     for part in ('crates/random/out/rlib/random.rlib/toolchain', 'crates/random/src'):
         os.makedirs(os.path.join(folder, part), exist_ok=True)
     with open(os.path.join(folder, 'crates/random/out/rlib/random.rlib/toolchain/mir.json'), 'w', encoding='utf-8') as handle:
