@@ -36,7 +36,10 @@ class CRun(CValues):
         self.run(f.body, State((), values, z3.Const('memory', Mem)))
 
     def run(self, body, state):
+        self.ahead, self.passed = {}, set()         # states on the way to labels; labels that lie behind
         end = self.statement(body, state, None)
+        if self.ahead:
+            raise Refused(f'goto {min(self.ahead)}, where no run comes by')
         if end is not None:
             if self.result != C_VOID:
                 raise Refused('a result is missing at the end')
@@ -48,7 +51,7 @@ class CRun(CValues):
         """The state after it, or None. `around`: the states that break and continue the loop around."""
         if isinstance(s, c_ast.Compound):
             for inner in s.block_items or []:
-                state = None if state is None else self.statement(inner, state, around)
+                state = None if state is None and not isinstance(inner, c_ast.Label) else self.statement(inner, state, around)
             return state
         if isinstance(s, c_ast.DeclList):
             for inner in s.decls:
@@ -75,9 +78,24 @@ class CRun(CValues):
         if isinstance(s, c_ast.Return):
             self.leave(s, state)
             return None
+        if isinstance(s, c_ast.Goto):
+            if s.name in self.passed:
+                raise Refused(f'goto {s.name}, which lies before')
+            self.ahead.setdefault(s.name, []).append(state)
+            return None
+        if isinstance(s, c_ast.Label):
+            return self.label(s, state, around)
         if isinstance(s, (c_ast.EmptyStatement, c_ast.Pragma)):
             return state
         raise Refused(f'C statement {type(s).__name__}')
+
+    def label(self, s, state, around):
+        """All that came here by a `goto` before, and what comes from above."""
+        if s.name in self.passed:
+            raise Refused(f'label {s.name}: twice')
+        self.passed.add(s.name)
+        state = merge(self.ahead.pop(s.name, []) + [state])
+        return None if state is None else self.statement(s.stmt, state, around)
 
     def declare(self, s, state):
         if s.name in self.types or s.storage or s.align or not isinstance(s.type, (c_ast.TypeDecl, c_ast.PtrDecl)):
