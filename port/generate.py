@@ -14,6 +14,7 @@ import sys
 
 import helpers
 import sources
+from blocks import as_branches, as_values
 from c_functions import FunctionText
 from c_types import Types, c_name
 from fold import fold, simplify
@@ -88,10 +89,15 @@ class Generator:
         if function.name in self.imported:
             return
         infer_pointers(function)
+        tests = as_branches(function)
         if not self.options.no_passes:
-            for step in (simplify, fold, simplify, fold, wrap, fold):
+            for step in (simplify, fold, simplify, fold):
+                step(function)
+            as_values(function, tests)
+            for step in (wrap, fold):
                 step(function)
             inline(self.program, function, self.prepare)
+            as_values(function, tests)
             for step in (fold, join_words, fold, join_words):
                 step(function)
 

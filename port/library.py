@@ -26,7 +26,7 @@ def is_put(program, function):
     if program.of_library(function.name):
         return True
     lent, is_instance = [t for t in function.types[1:function.params + 1] if isinstance(t, Ref)], function.name in program.instances
-    return any(not isinstance(t.target, Array) and (is_instance or not t.mutable and not isinstance(t.target, IntType)) for t in lent)
+    return any(not isinstance(t.target, Array) and (is_instance or not isinstance(t.target, IntType)) for t in lent)
 
 
 def put_in_place(program, function):
@@ -107,15 +107,16 @@ def has_exit(body):
     return any(isinstance(s, Exit) for s in statements(body))
 
 
-def chosen(function, body):
-    """Branches that do nothing but give a local one number each, as one value."""
+def chosen(function, body, only=None):
+    """Branches that do nothing but give a local one number each, as one value. `only`: these locals."""
     out = []
     for statement in body:
-        statement = with_bodies(statement, lambda b: chosen(function, b))
+        statement = with_bodies(statement, lambda b: chosen(function, b, only))
         branches = bodies_of(statement) if isinstance(statement, (If, Switch)) else ()
         if branches and all(len(b) == 1 and isinstance(b[0], Assign) and b[0].place == branches[0][0].place for b in branches):
             place, values = branches[0][0].place, [b[0].value for b in branches]
-            if isinstance(place.base, int) and not place.steps and isinstance(function.types[place.base], (IntType, type(BOOL))):
+            if isinstance(place.base, int) and not place.steps and isinstance(function.types[place.base], (IntType, type(BOOL))) \
+                    and (only is None or place.base in only):
                 statement = Assign(place, one_value(statement, values))
         out.append(statement)
     return tuple(out)
@@ -172,6 +173,8 @@ def settled(value):
         return Bool((value.left == value.right) == (value.op == 'Eq'))
     if isinstance(value, Cast) and isinstance(value.operand, Bool):
         return Int(value.width, int(value.operand.value))
+    if isinstance(value, Cast) and isinstance(value.operand, Int) and not value.signed and value.operand.value < 1 << value.width:
+        return Int(value.width, value.operand.value)
     return opposite(value.operand) if isinstance(value, Unary) and value.op == 'Not' and is_test(value.operand) else value
 
 
@@ -184,6 +187,8 @@ def opposite(test):
         return Bool(not test.value)
     if isinstance(test, Binary) and test.op in ('Eq', 'Ne'):
         return replace(test, op='Ne' if test.op == 'Eq' else 'Eq')
+    if isinstance(test, Unary) and test.op == 'Not':
+        return test.operand
     return Unary('Not', test)
 
 

@@ -75,16 +75,16 @@ def with_calls(matcher, solver, name, calls):
     """Variables that turn out not to be the program's at a loop's head are taken as not written there, loops that write memory on one
     side are taken to write it on both, and all is tried again."""
     c, program, way = matcher.c, matcher.program, matcher.copies[name]
-    locals_of, callees, dead, written = matcher.locals_of(name, way), matcher.callees(calls.called), frozenset(), frozenset()
+    locals_of, callees, dead, written, behind = matcher.locals_of(name, way), matcher.callees(calls.called), frozenset(), frozenset(), frozenset()
     f = program.get(way.name)
     shapes = {i: program.shape(t) for i, t in f.memory().items()}
     unused = set(shapes) - {locals_of.get(variable) for variable in declared_in(c.functions[name].body)} - used_locals(f.body)
     for _ in range(TURNS):
         calls.theirs = CRun(c, name, way.parameters, locals_of, callees, shapes, dead, written)
         kept = {locals_of[variable] for variable in calls.theirs.memory}
-        ours = ProgramRun(program, way.name, calls.in_place, way.fixed, c.target.size_bits, written, unused, kept)
-        compare = Compare(solver, ours, calls.theirs)
         try:
+            ours = ProgramRun(program, way.name, calls.in_place, way.fixed, c.target.size_bits, written, unused, kept, behind)
+            compare = Compare(solver, ours, calls.theirs)
             compare.run()
             return compare
         except Refused as refused:
@@ -92,6 +92,8 @@ def with_calls(matcher, solver, name, calls):
                 dead |= {refused.variable}
             elif refused.loop is not None:
                 written |= {refused.loop}
+            elif refused.behind is not None and refused.behind not in behind:
+                behind |= {refused.behind}
             else:
                 raise
     raise Refused('too many variables that differ at loop heads')

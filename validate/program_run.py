@@ -29,13 +29,14 @@ class ProgramRun(Run):
     """`in_place(name, literals, guard, leaves)`: whether a call is run in place, since C has no such call; the last two are None where the
     run has not got there. `fixed`: parameters that are literals. `written`: loops at whose heads memory is anything in any case. `unused`:
     locals in memory that are only assigned, which C leaves out: nothing reaches a block whose address nobody has. `kept`: the locals that C has in memory too;
-    the others are held as values, and their addresses are Borrows."""
+    the others are held as values, and their addresses are Borrows. `behind`: (loop, local) that is written there behind its address."""
 
-    def __init__(self, program, name, in_place, fixed, size_bits, written=frozenset(), unused=frozenset(), kept=None):
+    def __init__(self, program, name, in_place, fixed, size_bits, written=frozenset(), unused=frozenset(), kept=None, behind=frozenset()):
         super().__init__()
+        self.behind = behind
         self.program, self.in_place, self.size_bits, self.written, self.unused, self.kept = program, in_place, size_bits, written, unused, kept
         self.f, self.depth, self.counts = program.get(name), 0, {}
-        self.frame, self.functions, self.inside = 0, [self.f], []   # the run that goes on; the functions of all; how many there were at the loop around
+        self.frame, self.functions, self.inside = 0, [self.f], []   # the run that goes on; the functions of all; each loop around, and how many there were
         self.result = self.f.types[0]
         values = {i: self.argument(i, fixed) for i in self.f.parameters()}
         state = State((), values, z3.Const('memory', Mem))
@@ -147,6 +148,7 @@ class ProgramRun(Run):
             raise Refused('a loop in a function that C has in place')
         n = len(self.heads)
         changed, memory = self.changes(self.f, body)
+        changed |= {key for m, key in self.behind if m == n and not isinstance(key, tuple)}
         memory = memory or n in self.written
         head = Head(state, changed, memory)
         self.heads.append(head)
@@ -156,7 +158,7 @@ class ProgramRun(Run):
         if memory:
             turn.memory = z3.Const(f'loop {n} memory', Mem)
         again = []
-        self.inside.append(len(self.functions) - 1)
+        self.inside.append((n, len(self.functions)))
         end = self.body(body, turn, around + [again])
         self.inside.pop()
         head.back = merge(again + [end])
@@ -224,9 +226,12 @@ class ProgramRun(Run):
         return self.functions[frame].types[i]
 
     def written_behind(self, key):
-        """A value that was there before a loop began is what it is at the loop's head; so it must not be written behind its address there."""
-        if self.inside and (key[0] if isinstance(key, tuple) else 0) <= self.inside[-1]:
-            raise Refused('a value is written behind its address in a loop')
+        """A value that was there before a loop began is what it is at the loop's head; so it is not written behind its address there, but where that is known."""
+        for n, functions in self.inside:
+            if (key[0] if isinstance(key, tuple) else 0) < functions and (n, key) not in self.behind:
+                refused = Refused('a value is written behind its address in a loop')
+                refused.behind = n, key
+                raise refused
 
     def fetch_memory(self, state, pointer, shape):
         if isinstance(shape, list):

@@ -15,9 +15,9 @@ FUNCTIONS = {}
 
 class Refused(Exception):
     """Not shown equal, or a form that is not known. `variable`: a loop's variable that is not equal at its head; `loop`: one that
-    writes memory on one side only."""
+    writes memory on one side only; `behind`: a loop and a local that is written there behind its address."""
 
-    variable = loop = None
+    variable = loop = behind = None
 
 
 def function(name, *sorts):
