@@ -149,6 +149,37 @@ def compared(rng):
     return w.form()
 
 
+def condition(rng):
+    """`if a && b { .. } else { .. }`, and `if a || b || c { return .. }`, as blocks that an exit leaves."""
+    w = EnumWriter(rng, U64, [U64, U64])
+    test, out = w.local('Bool'), w.local(U64)
+
+    def ask(x, bits):
+        w.out.append(('Assign', place(test), {'Op2': [rng.choice(['Eq', 'Ne', {'Lt': 'Unsigned'}]), w.masked(x, bits), number(rng.randrange(1, bits + 1))]}))
+
+    def both():
+        ask(copy(1), 3)
+
+        def second():
+            ask(w.binary('Xor', copy(2), number(1)), 7)
+            chosen = w.within(lambda: w.out.extend([('Assign', place(out), {'Opd': w.binary('WrapAdd', copy(1), number(9))}), ('Exit', 0)]))
+            w.out.append(('If', copy(test), chosen, []))
+        w.out.append(('If', copy(test), w.within(second), []))
+        w.out.append(('Assign', place(out), {'Opd': copy(2)}))
+    w.out.append(('Block', w.within(both)))
+
+    def asked_of(xs):
+        ask(xs[0], 3)
+        w.out.append(('If', copy(test), [], w.within(lambda: asked_of(xs[1:])) if xs[1:] else [('Exit', 0)]))
+
+    def inner():
+        asked_of([copy(1), copy(out), w.binary('Xor', copy(2), copy(out))])
+        w.give(w.binary('Xor', copy(out), number(77)))
+    w.out.append(('Block', [('Block', w.within(inner)), ('Block', [])]))
+    w.give(copy(out))
+    return w.form()
+
+
 def sized(rng):
     """A loop of as many turns as the function's parameter says."""
     w = EnumWriter(rng, U64, [U64])
@@ -212,6 +243,7 @@ def exported(rng):
         else:
             x, y = w.binary('WrapAdd', x, w.binary({'Shr': 'Unsigned'}, y, number(7))), x
     x = w.binary('Xor', x, copy(w.run('random::compared', [y, x])))
+    x = w.binary('WrapAdd', x, copy(w.run('random::condition', [x, y])))
     w.give(w.binary('Xor', x, w.binary('WrapMul', y, number(3))))
     return w.form()
 
@@ -219,6 +251,6 @@ def exported(rng):
 def write_enums(folder, seed):
     """A crate as write_program has it."""
     rng = random.Random(seed)
-    functions = (asked, passed_on, answered, number_of, make_item, held, equal, compared, sized, bounded, first_of)
+    functions = (asked, passed_on, answered, number_of, make_item, held, equal, compared, condition, sized, bounded, first_of)
     forms = [[f'random::{of.__name__}', of(rng)] for of in functions]
     return write_crate(folder, forms + [[f'random::call_{k}', exported(rng)] for k in range(EXPORTED)])

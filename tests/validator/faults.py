@@ -71,4 +71,6 @@ FAULTS = [
     ('c_types.py', "self.shape(t).variants[index], self.shape(t).variants", "self.shape(t).variants[-1 - index], self.shape(t).variants", 'enums'),
     ('c_values.py', "'WrapMul': 'Mul'}", "'WrapMul': 'Add'}", 'enums'),
     ('c_values.py', "({test} ? {wide}{x} : {y})', t", "({test} ? {wide}{y} : {x})', t", 'enums'),
+    ('blocks.py', "asked = at_ends(statement, lambda b: (Assign(test, Bool(True)),)", "asked = at_ends(statement, lambda b: (Assign(test, Bool(False)),)", 'enums'),
+    ('blocks.py', "return body[:i] + (asked, If(Copy(test), rest, ()))", "return body[:i] + (asked, If(Copy(test), (), rest))", 'enums'),
 ]
