@@ -3,7 +3,7 @@
 Values have no effects, so only the order of readings changes, and a value is moved past no statement that writes what it reads.
 A value never comes into a branch or a turn of a loop in which it was not computed before.
 """
-from forms import (UNIT, Address, Aggregate, Array, Assign, Call, Copy, Deref, Exit, Field, Int, Load, Place, Repeat, Return, Slice, Store,
+from forms import (UNIT, Address, Aggregate, Array, Assign, Call, Copy, Deref, Exit, Field, Int, Load, Place, Repeat, Return, Slice, Store, Switch,
                    bodies_of, derefs, inside, locals_read, places_in, started, statements, target_of, values_of, with_bodies,
                    with_operands, with_values)
 
@@ -141,7 +141,8 @@ class Folding:
                 return
             if hits:
                 self.pairs += 1
-                if free and max(sum(1 for _ in inside(v)) for v in values_of(new)) <= LARGEST:
+                is_asked_often = isinstance(new, Switch) and not isinstance(new.value, Copy)        # once for each arm
+                if free and not is_asked_often and max(sum(1 for _ in inside(v)) for v in values_of(new)) <= LARGEST:
                     body[i], body[j] = None, new
                 return
             if target_of(body[j]) == Place(self.local) or isinstance(body[j], (Return, Exit)):

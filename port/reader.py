@@ -261,13 +261,15 @@ class Reading:
 
 
 def reached(statement):
-    """A branch without the arms that the proof has shown not to be reached, as a body."""
+    """A branch without the arms that the proof has shown not to be reached, as a body; a switch on a number that is given is its arm."""
     def lost(body):
         return body and isinstance(body[-1], Unreachable)
     if isinstance(statement, If):
         if lost(statement.then) or lost(statement.other):
             return statement.other if lost(statement.then) else statement.then
         return (statement,)
+    if isinstance(statement.value, Int):
+        return next((body for keys, body in statement.arms if keys is None or statement.value.value in keys), ())
     arms = tuple((keys, body) for keys, body in statement.arms if not lost(body))
     return arms[0][1] if len(arms) == 1 != len(statement.arms) else (Switch(statement.value, arms),)
 
