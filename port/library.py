@@ -61,30 +61,30 @@ def with_calls_put(program, function, around):
 
 def in_place(program, caller, callee, call, around):
     """The statements that stand for a call: parameters set, the body, the result."""
-    make_ready(program, callee, around)
+    callee = made_ready(program, callee.name, around)
     new = {i: caller.add_local(t) for i, t in enumerate(callee.types)}
     caller.in_memory |= {new[i] for i in callee.in_memory}
     out = [Assign(Place(new[i]), arg) for i, arg in zip(callee.parameters(), call.args)]
     return out + list(renamed_body(callee.body, new)) + [Assign(call.place, Copy(Place(new[0])))]
 
 
-def make_ready(program, function, around):
+def made_ready(program, name, around):
     """A function to be put in place: so is what it calls itself, nothing returns before the end, and branches that choose a number are one value."""
-    if function.name in around:
-        raise Stop(f'{function.name}: recursion')
-    if function.is_done:
-        return
-    function.is_done = True
-    with_calls_put(program, function, around | {function.name})
-    function.body = straight(function.body)
-    follow(program, function)
-    infer_pointers(function)
-    for step in (simplify, fold, simplify, fold):
-        step(function)
-    before = None
-    while before != function.body:
-        before, function.body = function.body, chosen(function, function.body)
-        fold(function)
+    if name in around:
+        raise Stop(f'{name}: recursion')
+    if name not in program.ready:
+        function = program.ready[name] = program.read(name)
+        with_calls_put(program, function, around | {name})
+        function.body = straight(function.body)
+        follow(program, function)
+        infer_pointers(function)
+        for step in (simplify, fold, simplify, fold):
+            step(function)
+        before = None
+        while before != function.body:
+            before, function.body = function.body, chosen(function, function.body)
+            fold(function)
+    return program.ready[name]
 
 
 def straight(body):

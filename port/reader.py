@@ -378,6 +378,7 @@ class Program:
         self.crates, self.library = set(), set()        # crates that were read; those among them that are the toolchain's
         self.forms, self.impls, self.declared = {}, {}, {}      # functions as they are in the file; methods of each impl; shapes of types, with parameters
         self.functions, self.instances = {}, {}         # functions that were read; instance's name -> function, types, impls
+        self.ready = {}                                 # functions made ready to be put in place of their calls (library.py)
         self.shapes, self.heads, self.texts = Shapes(self.read_shape), {}, {}
 
     # ---- crates
