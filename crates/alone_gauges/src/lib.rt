@@ -37,24 +37,36 @@ impl Comparison {
         }
     }
 
-    // Counts one more line.
+    // The same counts and one more line.
     #[tactic(auto, unfolding(crate::specs::Report::hit))]
-    fn count(&mut self, kind: Kind)
-        requires agreeing { self.old.agreeing < 65536 }
-        requires differing { self.old.differing < 65536 }
-        requires only_first { self.old.only_first < 65536 }
-        requires only_second { self.old.only_second < 65536 }
-        ensures agreeing { self.new.agreeing ≡ self.old.agreeing + hit (kind_number kind) 1 }
-        ensures differing { self.new.differing ≡ self.old.differing + hit (kind_number kind) 2 }
-        ensures only_first { self.new.only_first ≡ self.old.only_first + hit (kind_number kind) 3 }
-        ensures only_second { self.new.only_second ≡ self.old.only_second + hit (kind_number kind) 4 }
-        ensures code { self.new.code ≡ self.old.code }
+    fn with_line(self, kind: Kind) -> Self
+        requires agreeing { self.agreeing < 65536 }
+        requires differing { self.differing < 65536 }
+        requires only_first { self.only_first < 65536 }
+        requires only_second { self.only_second < 65536 }
+        ensures agreeing { result.agreeing ≡ self.agreeing + hit (kind_number kind) 1 }
+        ensures differing { result.differing ≡ self.differing + hit (kind_number kind) 2 }
+        ensures only_first { result.only_first ≡ self.only_first + hit (kind_number kind) 3 }
+        ensures only_second { result.only_second ≡ self.only_second + hit (kind_number kind) 4 }
+        ensures code { result.code ≡ self.code }
     {
         match kind {
-            Kind::Agreeing => self.agreeing += 1,
-            Kind::Differing => self.differing += 1,
-            Kind::OnlyFirst => self.only_first += 1,
-            Kind::OnlySecond => self.only_second += 1,
+            Kind::Agreeing => Comparison {
+                agreeing: self.agreeing + 1,
+                ..self
+            },
+            Kind::Differing => Comparison {
+                differing: self.differing + 1,
+                ..self
+            },
+            Kind::OnlyFirst => Comparison {
+                only_first: self.only_first + 1,
+                ..self
+            },
+            Kind::OnlySecond => Comparison {
+                only_second: self.only_second + 1,
+                ..self
+            },
         }
     }
 }

@@ -112,7 +112,7 @@ pub fn tally(first: &[u8], second: &[u8], tolerance: u64) -> Comparison
     // Stays a `while`: two places move, each by a row or by none, so no range counts the turns.
     while i + j < rows {
         let next = next_line(first, second, i, j, tolerance);
-        counts.count(next.kind);
+        counts = counts.with_line(next.kind);
         i = next.first;
         j = next.second;
     }

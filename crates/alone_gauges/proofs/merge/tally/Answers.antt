@@ -31,7 +31,7 @@ pub loop-i-preserved : goal.loop-i-preserved
 loop-i-preserved c =
     let l = c.loop-i.invariant in
     let s = c.next_line-next.ensures in
-    let n = c.count.ensures in
+    let n = c.with_line-counts.ensures in
     let k = kind_number c.next_line-next.result.kind in
     record {
       first_place = s.first_place;
