@@ -107,14 +107,6 @@ level-below lowest m (r ∷ rs) e h =
 
 -- ---- what is asked of a strip, one after the other
 
-pub acceptable-parted : (s : List ℕ) → (length s % 4 ≡ 0 → ⊥) → acceptable s ≡ false
-unfolding acceptable
-acceptable-parted s h = rw (ne_eqb (length s % 4) 0 h)
-
-pub acceptable-long : (s : List ℕ) → length s % 4 ≡ 0 → 5760 < length s → acceptable s ≡ false
-unfolding acceptable
-acceptable-long s e h = rw (eq-eqb (length s % 4) 0 e, lt-leb (length s) 5760 h)
-
 pub acceptable-rest : (s : List ℕ) → length s % 4 ≡ 0 → length s ≤ 5760 → acceptable s ≡ rising 0 (readings s)
 unfolding acceptable
 acceptable-rest s e h = rw (eq-eqb (length s % 4) 0 e, le-leb (length s) 5760 h)
