@@ -732,16 +732,6 @@ static inline uint64_t call_writer__abort_answer(struct core_slice_u8 log, struc
     return 0u;
 }
 
-/* The record `r`, changed at its place by `abort_at`. */
-static inline struct model__Writer base_writers__places__aborted(struct model__Writer r)
-{
-    struct model__Writer t2;
-
-    t2 = r;
-    (*&t2) = (struct model__Writer){.mode = 0u, .home = 0u, .first = 0u, .count = 1u};
-    return t2;
-}
-
 /* A count as it is kept: less one, modulo 2^64. */
 static inline uint64_t base_state__writers__less_one(uint64_t count)
 {
@@ -767,11 +757,8 @@ static inline void base_state__writers__set_writer(struct core_slice_mut_u8 s, u
 /* Ends the transaction in the record of writer `w`. */
 static inline void base_writers__abort(struct core_slice_mut_u8 s, uint64_t w)
 {
-    struct model__Writer t3, t9;
-
-    t3 = base_state__writers__writer((struct core_slice_u8){s.ptr, s.len}, w);
-    t9 = base_writers__places__aborted(t3);
-    base_state__writers__set_writer(s, w, t9);
+    (void)base_state__writers__writer((struct core_slice_u8){s.ptr, s.len}, w);
+    base_state__writers__set_writer(s, w, (struct model__Writer){.mode = 0u, .home = 0u, .first = 0u, .count = 1u});
 }
 
 /* Drops a writer's open transaction with the block that it holds, and gives back the places promised to it. */
@@ -814,24 +801,11 @@ static inline uint64_t call_writer__begin_answer(struct core_slice_u8 log, struc
     return 0u;
 }
 
-/* The record `r`, changed at its place by `begin_at`. */
-static inline struct model__Writer base_writers__places__begun(struct model__Writer r)
-{
-    struct model__Writer t2;
-
-    t2 = r;
-    (*&t2) = (struct model__Writer){.mode = 1u, .home = 0u, .first = 0u, .count = 1u};
-    return t2;
-}
-
 /* Begins a transaction in the record of writer `w`. */
 static inline void base_writers__begin(struct core_slice_mut_u8 s, uint64_t w)
 {
-    struct model__Writer t3, t9;
-
-    t3 = base_state__writers__writer((struct core_slice_u8){s.ptr, s.len}, w);
-    t9 = base_writers__places__begun(t3);
-    base_state__writers__set_writer(s, w, t9);
+    (void)base_state__writers__writer((struct core_slice_u8){s.ptr, s.len}, w);
+    base_state__writers__set_writer(s, w, (struct model__Writer){.mode = 1u, .home = 0u, .first = 0u, .count = 1u});
 }
 
 /* Begins a transaction of a writer that has none open. */
@@ -4688,23 +4662,13 @@ static inline struct model__Writer base_writers__records__hold(struct model__Wri
     return (struct model__Writer){.mode = 3u, .home = home, .first = t4, .count = t7 + 1u};
 }
 
-/* Makes the record at `p` that of a writer that holds a block for `home`. */
-static inline void base_writers__places__hold_at(struct model__Writer *p, uint64_t home, uint64_t position)
-{
-    struct model__Writer t4;
-
-    t4 = base_writers__records__hold(*p, home, position);
-    (*p) = t4;
-}
-
 /* The record `r`, changed at its place by `hold_at`. */
 static inline struct model__Writer base_writers__places__held(struct model__Writer r, uint64_t home, uint64_t position)
 {
-    struct model__Writer t4;
+    struct model__Writer t11;
 
-    t4 = r;
-    base_writers__places__hold_at(&t4, home, position);
-    return t4;
+    t11 = base_writers__records__hold(r, home, position);
+    return t11;
 }
 
 /* Stores what becomes of `r`, the record of writer `w`, once it holds a block for `home`; a block that it held for another home

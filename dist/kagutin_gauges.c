@@ -23,14 +23,19 @@ struct slice_u8 {
     size_t len;
 };
 
+struct alone_gauges__merge__Kind {
+    uint8_t tag;
+};
+
 struct alone_gauges__merge__Step {
     uint64_t minute;
-    uint64_t kind;
+    struct alone_gauges__merge__Kind kind;
     uint64_t first;
     uint64_t second;
 };
 
-struct alone_gauges__merge__Counts {
+struct alone_gauges__Comparison {
+    uint64_t code;
     uint64_t agreeing;
     uint64_t differing;
     uint64_t only_first;
@@ -40,14 +45,6 @@ struct alone_gauges__merge__Counts {
 struct slice_mut_u8 {
     uint8_t *ptr;
     size_t len;
-};
-
-struct alone_gauges__Comparison {
-    uint64_t code;
-    uint64_t agreeing;
-    uint64_t differing;
-    uint64_t only_first;
-    uint64_t only_second;
 };
 
 #if defined(__GNUC__) && !defined(KAGUTIN_PLAIN_C)
@@ -116,17 +113,19 @@ static inline void store_2(uint8_t *p, uint64_t v)
 /* Whether the minutes of whole rows rise strictly. */
 static inline bool alone_gauges__readings__rises(struct slice_u8 s)
 {
-    uint64_t t2, t3, t4;
+    uint64_t t2, t3, t4, t5, t10;
 
     t2 = 0u;
     t3 = 0u;
-    while (t3 < (uint64_t)s.len) {
-        t4 = (uint64_t)s.ptr[(size_t)t3] + (256u * (uint64_t)s.ptr[(size_t)(t3 + 1u)]);
+    t5 = (uint64_t)s.len / 4u;
+    while (t3 < t5) {
+        t10 = 4u * t3;
+        t4 = (uint64_t)s.ptr[(size_t)t10] + (256u * (uint64_t)s.ptr[(size_t)(t10 + 1u)]);
         if (t4 < t2) {
             return false;
         }
         t2 = t4 + 1u;
-        t3 = t3 + 4u;
+        t3 = t3 + 1u;
     }
     return true;
 }
@@ -134,102 +133,107 @@ static inline bool alone_gauges__readings__rises(struct slice_u8 s)
 /* Whether a strip holds whole rows, no more than 1,440, whose minutes rise strictly. */
 static inline bool alone_gauges__readings__acceptable(struct slice_u8 s)
 {
-    if (((uint64_t)s.len % 4u) != 0u) {
-        return false;
+    bool t2, t3, t7;
+
+    t7 = ((uint64_t)s.len % 4u) == 0u;
+    t3 = t7;
+    if (t7) {
+        t3 = (uint64_t)s.len <= ((uint64_t)4u * 1440u);
     }
-    if (((uint64_t)4u * 1440u) < (uint64_t)s.len) {
-        return false;
+    t2 = t3;
+    if (t3) {
+        t2 = alone_gauges__readings__rises(s);
     }
-    return alone_gauges__readings__rises(s);
+    return t2;
 }
 
 /* The kind of a minute that both lists have. */
-static inline uint64_t alone_gauges__merge__kind_of(uint64_t a, uint64_t b, uint64_t tolerance)
+static inline struct alone_gauges__merge__Kind alone_gauges__merge__kind_of(uint64_t a, uint64_t b, uint64_t tolerance)
 {
-    uint64_t t6, t7;
+    struct alone_gauges__merge__Kind t6;
 
-    if (a < b) {
-        t6 = b - a;
+    if (((a < b) ? (b - a) : (a - b)) <= tolerance) {
+        t6 = (struct alone_gauges__merge__Kind){.tag = 0u};
     } else {
-        t6 = a - b;
+        t6 = (struct alone_gauges__merge__Kind){.tag = 1u};
     }
-    if (t6 <= tolerance) {
-        t7 = 1u;
-    } else {
-        t7 = 2u;
-    }
-    return t7;
+    return t6;
 }
 
 /* The next line of the rows from byte `i` of the first strip and byte `j` of the second on. */
 static inline struct alone_gauges__merge__Step alone_gauges__merge__next_line(struct slice_u8 first, struct slice_u8 second,
         uint64_t i, uint64_t j, uint64_t tolerance)
 {
-    uint64_t t7, t8, t9, t47, t57;
+    uint64_t t7, t8, t63, t77;
+    struct alone_gauges__merge__Kind t9;
 
     if ((uint64_t)second.len <= j) {
         return (struct alone_gauges__merge__Step){.minute = (uint64_t)first.ptr[(size_t)i]
-                + (256u * (uint64_t)first.ptr[(size_t)(i + 1u)]), .kind = 3u, .first = i + 4u, .second = j};
+                + (256u * (uint64_t)first.ptr[(size_t)(i + 1u)]), .kind = (struct alone_gauges__merge__Kind){.tag = 2u},
+                .first = i + 4u, .second = j};
     }
     t7 = (uint64_t)second.ptr[(size_t)j] + (256u * (uint64_t)second.ptr[(size_t)(j + 1u)]);
     if ((uint64_t)first.len <= i) {
-        return (struct alone_gauges__merge__Step){.minute = t7, .kind = 4u, .first = i, .second = j + 4u};
+        return (struct alone_gauges__merge__Step){.minute = t7, .kind = (struct alone_gauges__merge__Kind){.tag = 3u}, .first = i,
+                .second = j + 4u};
     }
     t8 = (uint64_t)first.ptr[(size_t)i] + (256u * (uint64_t)first.ptr[(size_t)(i + 1u)]);
     if (t8 < t7) {
-        return (struct alone_gauges__merge__Step){.minute = t8, .kind = 3u, .first = i + 4u, .second = j};
+        return (struct alone_gauges__merge__Step){.minute = t8, .kind = (struct alone_gauges__merge__Kind){.tag = 2u}, .first = i
+                + 4u, .second = j};
     }
     if (t7 < t8) {
-        return (struct alone_gauges__merge__Step){.minute = t7, .kind = 4u, .first = i, .second = j + 4u};
+        return (struct alone_gauges__merge__Step){.minute = t7, .kind = (struct alone_gauges__merge__Kind){.tag = 3u}, .first = i,
+                .second = j + 4u};
     }
-    t47 = i + 2u;
-    t57 = j + 2u;
-    t9 = alone_gauges__merge__kind_of((uint64_t)first.ptr[(size_t)t47] + (256u * (uint64_t)first.ptr[(size_t)(t47 + 1u)]),
-            (uint64_t)second.ptr[(size_t)t57] + (256u * (uint64_t)second.ptr[(size_t)(t57 + 1u)]), tolerance);
+    t63 = i + 2u;
+    t77 = j + 2u;
+    t9 = alone_gauges__merge__kind_of((uint64_t)first.ptr[(size_t)t63] + (256u * (uint64_t)first.ptr[(size_t)(t63 + 1u)]),
+            (uint64_t)second.ptr[(size_t)t77] + (256u * (uint64_t)second.ptr[(size_t)(t77 + 1u)]), tolerance);
     return (struct alone_gauges__merge__Step){.minute = t8, .kind = t9, .first = i + 4u, .second = j + 4u};
 }
 
-/* 1 if a line is of the kind asked for, else 0. */
-static inline uint64_t alone_gauges__merge__hit(uint64_t kind, uint64_t wanted)
+/* The same counts and one more line. */
+static inline struct alone_gauges__Comparison alone_gauges__Comparison__with_line(struct alone_gauges__Comparison self,
+        struct alone_gauges__merge__Kind kind)
 {
-    uint64_t t4;
+    struct alone_gauges__Comparison t3;
 
-    if (kind == wanted) {
-        t4 = 1u;
+    if (kind.tag == 0u) {
+        t3 = (struct alone_gauges__Comparison){.code = self.code, .agreeing = self.agreeing + 1u, .differing = self.differing,
+                .only_first = self.only_first, .only_second = self.only_second};
+    } else if (kind.tag == 1u) {
+        t3 = (struct alone_gauges__Comparison){.code = self.code, .agreeing = self.agreeing, .differing = self.differing + 1u,
+                .only_first = self.only_first, .only_second = self.only_second};
+    } else if (kind.tag == 2u) {
+        t3 = (struct alone_gauges__Comparison){.code = self.code, .agreeing = self.agreeing, .differing = self.differing,
+                .only_first = self.only_first + 1u, .only_second = self.only_second};
     } else {
-        t4 = 0u;
+        t3 = (struct alone_gauges__Comparison){.code = self.code, .agreeing = self.agreeing, .differing = self.differing,
+                .only_first = self.only_first, .only_second = self.only_second + 1u};
     }
-    return t4;
+    return t3;
 }
 
-/* The lines of each kind. */
-static inline struct alone_gauges__merge__Counts alone_gauges__merge__tally(struct slice_u8 first, struct slice_u8 second,
+/* The answer of a call that is done, with the lines of each kind. */
+static inline struct alone_gauges__Comparison alone_gauges__merge__tally(struct slice_u8 first, struct slice_u8 second,
         uint64_t tolerance)
 {
-    uint64_t t4, t5, t6, t7, t8, t9, t10, t16;
-    struct alone_gauges__merge__Step t11;
+    uint64_t t4, t6, t7;
+    struct alone_gauges__Comparison t5;
+    struct alone_gauges__merge__Step t8;
 
     t4 = (uint64_t)first.len + (uint64_t)second.len;
-    t5 = 0u;
+    t5 = (struct alone_gauges__Comparison){.code = 0u, .agreeing = 0u, .differing = 0u, .only_first = 0u, .only_second = 0u};
     t6 = 0u;
     t7 = 0u;
-    t8 = 0u;
-    t9 = 0u;
-    t10 = 0u;
-    while ((t9 + t10) < t4) {
-        t11 = alone_gauges__merge__next_line(first, second, t9, t10, tolerance);
-        t16 = alone_gauges__merge__hit(t11.kind, 1u);
-        t5 = t5 + t16;
-        t16 = alone_gauges__merge__hit(t11.kind, 2u);
-        t6 = t6 + t16;
-        t16 = alone_gauges__merge__hit(t11.kind, 3u);
-        t7 = t7 + t16;
-        t16 = alone_gauges__merge__hit(t11.kind, 4u);
-        t8 = t8 + t16;
-        t9 = t11.first;
-        t10 = t11.second;
+    while ((t6 + t7) < t4) {
+        t8 = alone_gauges__merge__next_line(first, second, t6, t7, tolerance);
+        t5 = alone_gauges__Comparison__with_line(t5, t8.kind);
+        t6 = t8.first;
+        t7 = t8.second;
     }
-    return (struct alone_gauges__merge__Counts){.agreeing = t5, .differing = t6, .only_first = t7, .only_second = t8};
+    return t5;
 }
 
 /* Writes the lines, and leaves the bytes past them as they were. */
@@ -246,7 +250,7 @@ static inline void alone_gauges__merge__write_lines(struct slice_mut_u8 output, 
     while ((t6 + t7) < t5) {
         t9 = alone_gauges__merge__next_line(first, second, t6, t7, tolerance);
         store_2(output.ptr + (size_t)t8, t9.minute);
-        output.ptr[(size_t)(t8 + 2u)] = (uint8_t)(t9.kind % 256u);
+        output.ptr[(size_t)(t8 + 2u)] = (uint8_t)((uint32_t)t9.kind.tag + 1u);
         t6 = t9.first;
         t7 = t9.second;
         t8 = t8 + 3u;
@@ -257,27 +261,29 @@ static inline void alone_gauges__merge__write_lines(struct slice_mut_u8 output, 
 static inline struct alone_gauges__Comparison alone_gauges__kagutin_compare_gauges(struct slice_u8 first, struct slice_u8 second,
         struct slice_mut_u8 report, uint16_t tolerance)
 {
-    struct alone_gauges__merge__Counts t5;
-    bool t7;
+    struct alone_gauges__Comparison t6;
+    bool t9, t10, t20;
+    uint64_t t18;
 
-    t7 = alone_gauges__readings__acceptable(first);
-    if (!t7) {
+    t9 = alone_gauges__readings__acceptable(first);
+    if (!t9) {
+        t20 = true;
+    } else {
+        t10 = alone_gauges__readings__acceptable(second);
+        t20 = !t10;
+    }
+    if (t20) {
         return (struct alone_gauges__Comparison){.code = 22u, .agreeing = 0u, .differing = 0u, .only_first = 0u,
                 .only_second = 0u};
     }
-    t7 = alone_gauges__readings__acceptable(second);
-    if (!t7) {
+    t18 = (uint64_t)tolerance;
+    t6 = alone_gauges__merge__tally(first, second, t18);
+    if ((uint64_t)report.len < (3u * (((t6.agreeing + t6.differing) + t6.only_first) + t6.only_second))) {
         return (struct alone_gauges__Comparison){.code = 22u, .agreeing = 0u, .differing = 0u, .only_first = 0u,
                 .only_second = 0u};
     }
-    t5 = alone_gauges__merge__tally(first, second, (uint64_t)tolerance);
-    if ((uint64_t)report.len < (3u * (((t5.agreeing + t5.differing) + t5.only_first) + t5.only_second))) {
-        return (struct alone_gauges__Comparison){.code = 22u, .agreeing = 0u, .differing = 0u, .only_first = 0u,
-                .only_second = 0u};
-    }
-    alone_gauges__merge__write_lines(report, first, second, (uint64_t)tolerance);
-    return (struct alone_gauges__Comparison){.code = 0u, .agreeing = t5.agreeing, .differing = t5.differing,
-            .only_first = t5.only_first, .only_second = t5.only_second};
+    alone_gauges__merge__write_lines(report, first, second, t18);
+    return t6;
 }
 
 struct kagutin_comparison kagutin_compare_gauges(const uint8_t *first, size_t first_size, const uint8_t *second,

@@ -35,19 +35,8 @@ static inline int64_t to_signed(uint64_t x)
 static inline struct alone_inflow__Bounds alone_inflow__kagutin_inflow(uint64_t area, uint16_t low_before, uint16_t high_before,
         uint16_t low_after, uint16_t high_after, uint32_t low_pumped, uint32_t high_pumped)
 {
-    if (area < 1u) {
-        return (struct alone_inflow__Bounds){.code = 23u, .least = 0u, .most = 0u};
-    }
-    if (UINT64_C(0xf4240) < area) {
-        return (struct alone_inflow__Bounds){.code = 23u, .least = 0u, .most = 0u};
-    }
-    if (high_before < low_before) {
-        return (struct alone_inflow__Bounds){.code = 23u, .least = 0u, .most = 0u};
-    }
-    if (high_after < low_after) {
-        return (struct alone_inflow__Bounds){.code = 23u, .least = 0u, .most = 0u};
-    }
-    if (high_pumped < low_pumped) {
+    if ((area < 1u) || ((UINT64_C(0xf4240) < area) || ((high_before < low_before) || ((high_after < low_after)
+            || (high_pumped < low_pumped))))) {
         return (struct alone_inflow__Bounds){.code = 23u, .least = 0u, .most = 0u};
     }
     return (struct alone_inflow__Bounds){.code = 0u, .least = ((area * (uint64_t)low_after)

@@ -3,7 +3,7 @@
 EQUIVALENT = {
     ('unit_hours_book__total_at', 'if (p.last < second) {  ->  if (p.last <= second) {'):
         'where both are equal the one branch adds their difference, which is 0, to what the other gives',
-    ('alone_gauges__merge__kind_of', 'if (a < b) {  ->  if (a <= b) {'):
+    ('alone_gauges__merge__kind_of', 'if (((a < b) ? (b - a) : (a - b)) <= tolerance) {  ->  if (((a <= b) ? (b - a) : (a - b)) <= tolerance) {'):
         'where both are equal b - a and a - b are both 0',
     ('base_codec__turns__copy_with_top_bit', '+ (uint8_t)((uint32_t)128u * (uint8_t)bit));  ->  - (uint8_t)((uint32_t)128u * (uint8_t)bit));'):
         'what is added is 0 or 128, the sum becomes a byte, and 128 more or less is the same modulo 256',

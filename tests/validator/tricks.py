@@ -59,7 +59,7 @@ TRICKS = [
     (GAUGES, '/* Whether the minutes of whole rows', 'static uint64_t spare(uint64_t x)\n{\n    return x;\n}\n\n/* Whether the minutes of whole rows', 'left over'),
     (HOURS, '    return t4;\n}\n\n/* The number that the `k`', '    return t4;\n    abort_all();\n}\n\n/* The number that the `k`', 'a call of nothing behind a return'),
     # arithmetic
-    (INFLOW, 'if (high_before < low_before)', 'if ((int16_t)high_before < (int16_t)low_before)', 'a conversion that C leaves to the compiler'),
+    (INFLOW, '(high_before < low_before)', '((int16_t)high_before < (int16_t)low_before)', 'a conversion that C leaves to the compiler'),
     (INFLOW, '-(int64_t)~x - 1', '-(int64_t)(~x + 1u)', 'overflow at the least number'),
 ]
 
