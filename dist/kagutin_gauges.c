@@ -262,27 +262,26 @@ static inline struct alone_gauges__Comparison alone_gauges__kagutin_compare_gaug
         struct slice_mut_u8 report, uint16_t tolerance)
 {
     struct alone_gauges__Comparison t6;
-    bool t9, t10, t20;
-    uint64_t t18;
+    bool t8;
+    uint64_t t16;
 
-    t9 = alone_gauges__readings__acceptable(first);
-    if (!t9) {
-        t20 = true;
-    } else {
-        t10 = alone_gauges__readings__acceptable(second);
-        t20 = !t10;
-    }
-    if (t20) {
+    t8 = alone_gauges__readings__acceptable(first);
+    if (!t8) {
         return (struct alone_gauges__Comparison){.code = 22u, .agreeing = 0u, .differing = 0u, .only_first = 0u,
                 .only_second = 0u};
     }
-    t18 = (uint64_t)tolerance;
-    t6 = alone_gauges__merge__tally(first, second, t18);
+    t8 = alone_gauges__readings__acceptable(second);
+    if (!t8) {
+        return (struct alone_gauges__Comparison){.code = 22u, .agreeing = 0u, .differing = 0u, .only_first = 0u,
+                .only_second = 0u};
+    }
+    t16 = (uint64_t)tolerance;
+    t6 = alone_gauges__merge__tally(first, second, t16);
     if ((uint64_t)report.len < (3u * (((t6.agreeing + t6.differing) + t6.only_first) + t6.only_second))) {
         return (struct alone_gauges__Comparison){.code = 22u, .agreeing = 0u, .differing = 0u, .only_first = 0u,
                 .only_second = 0u};
     }
-    alone_gauges__merge__write_lines(report, first, second, t18);
+    alone_gauges__merge__write_lines(report, first, second, t16);
     return t6;
 }
 

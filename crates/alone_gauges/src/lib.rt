@@ -82,7 +82,10 @@ pub extern "C" fn kagutin_compare_gauges(
     ensures { leaves result.code result.agreeing result.differing result.only_first result.only_second report.new
         ≡ compare_gauges first.now second.now report.old tolerance }
 {
-    if !acceptable(first) || !acceptable(second) {
+    if !acceptable(first) {
+        return Comparison::of_none(22);
+    }
+    if !acceptable(second) {
         return Comparison::of_none(22);
     }
     let tolerance = u64::from(tolerance);

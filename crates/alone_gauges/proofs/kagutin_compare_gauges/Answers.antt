@@ -2,18 +2,17 @@
 use Rattle.std.proofs.Common.{arith, sym, ◌∙◌}
 use Rattle.alone_gauges.proofs.CallLaws.{refusal, refused-first, refused-second, refused-room, done-report, counted-sum, counted-short, completion}
 use Rattle.alone_gauges.proofs.kagutin_compare_gauges.Goals as goal
-use Rattle.alone_gauges.proofs.kagutin_compare_gauges.Goals.{then-not-acceptable-via-then-not-acceptable, then-not-acceptable-via-else-not-acceptable+then-not-acceptable-2}
 
 pub returns-then-not-acceptable : goal.returns-then-not-acceptable
 returns-then-not-acceptable c =
     let a = c.args in
-    refusal a.report.now c.of_none.ensures ∙ sym (elim c.then-not-acceptable.branch [
-      | then-not-acceptable-via-then-not-acceptable w ↦
-          refused-first a.first.now a.second.now a.report.now a.tolerance (sym c.acceptable.ensures ∙ w.if-not-acceptable.true)
-      | then-not-acceptable-via-else-not-acceptable+then-not-acceptable-2 w ↦
-          refused-second a.first.now a.second.now a.report.now a.tolerance (sym c.acceptable.ensures ∙ w.if-not-acceptable.false)
-          (sym w.acceptable-else-not-acceptable.ensures ∙ w.if-not-acceptable-2.true)
-    ])
+    refusal a.report.now c.of_none.ensures ∙ sym (refused-first a.first.now a.second.now a.report.now a.tolerance (sym c.acceptable.ensures ∙ c.if-not-acceptable.true))
+
+pub returns-then-not-acceptable-2 : goal.returns-then-not-acceptable-2
+returns-then-not-acceptable-2 c =
+    let a = c.args in
+    refusal a.report.now c.of_none-then-not-acceptable-2.ensures
+    ∙ sym (refused-second a.first.now a.second.now a.report.now a.tolerance (sym c.acceptable.ensures ∙ c.if-not-acceptable.false) (sym c.acceptable-2.ensures ∙ c.if-not-acceptable-2.true))
 
 pub overflow_add-lines : goal.overflow_add-lines
 overflow_add-lines c = search (arith, counted-short _ _ _ c.tally-counts.ensures.counted)
@@ -31,7 +30,7 @@ pub returns-then-report-lines : goal.returns-then-report-lines
 returns-then-report-lines c =
     let a = c.args in
     let e = sym c.acceptable.ensures ∙ c.if-not-acceptable.false in
-    let f = sym c.acceptable-else-not-acceptable.ensures ∙ c.if-not-acceptable-2.false in
+    let f = sym c.acceptable-2.ensures ∙ c.if-not-acceptable-2.false in
     let counted = rw c.from-tolerance.ensures at c.tally-counts.ensures.counted in
     let n = counted-sum a.tolerance a.first.now a.second.now counted in
     refusal a.report.now c.of_none-then-report-lines.ensures
@@ -41,13 +40,13 @@ pub write_lines-requires : goal.write_lines-requires
 write_lines-requires c =
     let a = c.args in
     let n = counted-sum _ a.first.now a.second.now c.tally-counts.ensures.counted in
-    (sym c.acceptable.ensures ∙ c.if-not-acceptable.false, sym c.acceptable-else-not-acceptable.ensures ∙ c.if-not-acceptable-2.false, omega (arith, c.if-report-lines.false, n))
+    (sym c.acceptable.ensures ∙ c.if-not-acceptable.false, sym c.acceptable-2.ensures ∙ c.if-not-acceptable-2.false, omega (arith, c.if-report-lines.false, n))
 
 pub returns : goal.returns
 returns c =
     let a = c.args in
     let e = sym c.acceptable.ensures ∙ c.if-not-acceptable.false in
-    let f = sym c.acceptable-else-not-acceptable.ensures ∙ c.if-not-acceptable-2.false in
+    let f = sym c.acceptable-2.ensures ∙ c.if-not-acceptable-2.false in
     let counted = rw c.from-tolerance.ensures at c.tally-counts.ensures.counted in
     let written = rw c.from-tolerance.ensures at c.write_lines.ensures in
     let n = counted-sum a.tolerance a.first.now a.second.now counted in
