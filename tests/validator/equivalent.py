@@ -13,4 +13,7 @@ EQUIVALENT = {
         'the same',
     ('call_rights__zeros__zero_entry', '| load_8(log.ptr + (size_t)(place + 24u))));  ->  | load_4(log.ptr + (size_t)(place + 24u))));'):
         'the eight bytes there are the first of the next four words, too, so that they are asked all the same',
+    ('log_replay__restore__restore_word', 'log_replay__places__restore_block(log, area, groups, start, slot, (uint64_t)table.ptr[(size_t)t10] - 1u, base + t10);  ->  '
+     't9 = t9 & (t9 - 1u);'):
+        'the two statements in the other order: which home is restored was found before, and clearing its bit touches nothing of it',
 }
