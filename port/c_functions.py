@@ -5,11 +5,10 @@ import textwrap
 from c_types import c_name
 from c_values import Values, bare
 from fold import read_locals
-from forms import (BOOL, U64, U8, UNIT, Array, Assign, Binary, Block, Call, Copy, Exit, If, Int, IntType, Loop, Named, Place, Ref,
-                   Repeat, Return, Slice, Stop, Store, Switch, Unary, derefs)
+from forms import (BOOL, U64, U8, UNIT, Array, Assign, Binary, Block, Call, Choice, Copy, Exit, If, Int, IntType, Loop, Named, Place, Ref,
+                   Repeat, Return, Slice, Stop, Store, Switch, Unary, derefs, has_large_table)
 
 WIDTH = 130         # columns of a line
-LARGE = 512         # bytes of a table that is kept out of the frames of callers
 
 
 def is_copying(body):
@@ -145,7 +144,7 @@ class FunctionText(Values):
     def negated(self, test, text):
         if isinstance(test, Unary):
             return text[1:]
-        return f'!({text})' if isinstance(test, Binary) else f'!{text}'
+        return f'!({text})' if isinstance(test, (Binary, Choice)) else f'!{text}'
 
     def switch(self, f, statement, depth, around, last):
         """A chain of `if`, so that `break` keeps its meaning. Without a default no other number can occur, so the last arm is `else`."""
@@ -224,7 +223,7 @@ class FunctionText(Values):
         self.out += code + ['}', '']
 
     def kind(self, f):
-        if any(isinstance(t, Array) and isinstance(t.item, IntType) and t.count * t.item.width // 8 >= LARGE for t in f.types):
+        if has_large_table(f):
             self.helpers.add('APART')
             return 'static APART '
         return 'static inline '

@@ -62,13 +62,18 @@ class Generator:
         if name in state:
             raise Stop(f'{name}: recursion')
         state[name] = 'open'
-        self.in_place(name)
-        for statement in statements(self.program.function(name).body):
+        function = self.program.function(name)
+        self.tried(name, self.in_place, function)
+        for statement in statements(function.body):
             if isinstance(statement, Call):
                 self.reach(statement.name, treat, state)
         state[name] = 'done'
+        self.tried(name, treat, function)
+
+    def tried(self, name, step, function):
+        """One step with a function; what stops it is said with the function's name."""
         try:
-            treat(self.program.function(name))
+            step(function)
         except Stop as stop:
             raise Stop(f'{name}: {stop}')
         except (LookupError, TypeError, ValueError, AttributeError) as error:
@@ -79,10 +84,10 @@ class Generator:
         self.field_names.update(sources.fields(self.options.source, crate))
         return sources.described(self.options.source, crate)
 
-    def in_place(self, name):
+    def in_place(self, function):
         """The library's functions in place of their calls, before anything else is done with the function."""
-        if name not in self.imported:
-            put_in_place(self.program, self.program.function(name))
+        if function.name not in self.imported:
+            put_in_place(self.program, function)
 
     def prepare(self, function):
         """The passes; without them (--no-passes) every temporary and call stays as the prover has it."""
@@ -134,7 +139,7 @@ class Generator:
             else:
                 out.function(function)
         self.pass_over(exported, write)
-        signed_fields = {field for crate in self.program.crates - self.program.library for field in sources.signed_fields(self.options.source, crate)}
+        signed_fields = {field for crate in self.program.crates - self.program.library.keys() for field in sources.signed_fields(self.options.source, crate)}
         for export in exported:
             try:
                 out.exported(self.program.function(export.path), export, self.results, signed_fields)

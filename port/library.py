@@ -8,8 +8,8 @@ from dataclasses import replace
 
 from fold import fold, mentions, simplify, sweep
 from forms import (BOOL, U64, U8, Address, Aggregate, Array, Assign, Binary, Block, Bool, Call, Cast, Choice, Copy, Deref, Exit, Field, Fields, If, Int, IntType,
-                   Loop, Named, Place, Ref, Return, Slice, Stop, Switch, Unary, Unit, Variant, bodies_of, derefs, inside, locals_read, places_in, statements,
-                   target_of, values_of, with_bodies, with_operands, with_values)
+                   Loop, Named, Place, Ref, Return, Slice, Stop, Switch, Unary, Unit, Variant, bodies_of, derefs, has_large_table, inside, locals_read,
+                   places_in, statements, target_of, values_of, with_bodies, with_operands, with_values)
 from inline import renamed_body
 from pointers import infer_pointers
 
@@ -19,14 +19,27 @@ TWICE = 12          # statements that may come to stand in two branches
 
 
 def is_put(program, function):
-    """Whether all calls of a function are replaced: one of the library's, or one that gets a reference to a struct, an enum or a boolean, and an
-    instance that gets one to anything but an array."""
+    """Whether all calls of a function are replaced: one of the library's, or one that gets a reference to a struct, an enum or a boolean and fits, and
+    an instance that gets one to anything but an array."""
     if any(isinstance(s, Loop) for s in statements(function.body)):
         return False
     if program.of_library(function.name):
         return True
     lent, is_instance = [t for t in function.types[1:function.params + 1] if isinstance(t, Ref)], function.name in program.instances
-    return any(not isinstance(t.target, Array) and (is_instance or not isinstance(t.target, IntType)) for t in lent)
+    if is_instance:
+        return any(not isinstance(t.target, Array) for t in lent)
+    return any(not isinstance(t.target, (Array, IntType)) for t in lent) and fits(function)
+
+
+def fits(function):
+    """Whether a function of the program's own may stand in place of its calls: without a large table, which only its own calls should have on the
+    stack, nor a `return` that leaves a block or would have much written twice."""
+    if has_large_table(function):
+        return False
+    try:
+        return straight_size(function.body, 0) <= size(function.body) + TWICE
+    except Stop:
+        return False
 
 
 def put_in_place(program, function):
@@ -103,6 +116,24 @@ def straight(body):
     return body
 
 
+def straight_size(body, behind):
+    """How many statements `straight` makes of a body with so many behind it."""
+    total = 0
+    for i, statement in enumerate(body):
+        if isinstance(statement, Return):
+            return total
+        if not any(isinstance(s, Return) for s in statements((statement,))):
+            total += size((statement,))
+        elif isinstance(statement, (If, Switch)):
+            rest = straight_size(body[i + 1:], behind)
+            return total + 1 + sum(straight_size(b, rest) for b in bodies_of(statement))
+        elif isinstance(statement, Block) and not has_exit(statement.body):
+            return total + straight_size(statement.body + body[i + 1:], behind)
+        else:
+            raise Stop('a return that leaves a block, in a function that is put in place of its calls')
+    return total + behind
+
+
 def has_exit(body):
     return any(isinstance(s, Exit) for s in statements(body))
 
@@ -112,7 +143,7 @@ def chosen(function, body, only=None):
     out = []
     for statement in body:
         statement = with_bodies(statement, lambda b: chosen(function, b, only))
-        branches = bodies_of(statement) if isinstance(statement, (If, Switch)) else ()
+        branches = bodies_of(statement) if isinstance(statement, If) or isinstance(statement, Switch) and is_tag(statement.value) else ()
         if branches and all(len(b) == 1 and isinstance(b[0], Assign) and b[0].place == branches[0][0].place for b in branches):
             place, values = branches[0][0].place, [b[0].value for b in branches]
             if isinstance(place.base, int) and not place.steps and isinstance(function.types[place.base], (IntType, type(BOOL))) \
@@ -291,7 +322,8 @@ class Following:
         if isinstance(value, Aggregate):
             return all(map(self.is_plain, value.parts))
         if isinstance(value, Address):
-            return isinstance(value.place.base, int) and not derefs(value.place.steps[1:])
+            return isinstance(value.place.base, int) and not derefs(value.place.steps[1:]) \
+                and not (derefs(value.place.steps) and value.place.base in self.in_memory)
         if isinstance(value, Copy):
             return isinstance(value.place.base, int) and value.place.base not in self.in_memory and not derefs(value.place.steps)
         return isinstance(value, (Int, Bool, Unit))

@@ -5,6 +5,7 @@ A function with parameters for types, numbers or impls is read once for each cho
 a type. Lifetimes are not read, as the machine does not read them. Bytes that stand in the program (`b"GW"`) are lent by
 `LendStatic`, in memory that is there from the start and that nothing writes: here a local array, filled where they are lent."""
 import json
+import marshal
 import os
 import shutil
 from dataclasses import replace
@@ -16,6 +17,9 @@ from forms import (BOOL, UNIT, Address, Aggregate, Array, Assign, Binary, Block,
 WITH_SIGN = ('Add', 'Sub', 'Mul', 'Div', 'Rem', 'Shr', 'Lt', 'Le')
 SIGNLESS = ('And', 'Or', 'Xor', 'Shl', 'Eq', 'Ne', 'WrapAdd', 'WrapSub', 'WrapMul')
 UNARY = ('Not', 'CountOnes', 'TrailingZeros', 'LeadingZeros')
+PIECE = 1 << 18     # bytes of a large file that are read at once
+HEAD = b'",{"lifetimes":'                # behind a function's name, before its form; a call goes on with its types there
+LONGEST = 1 << 12   # bytes of a name
 
 
 def unknown(what, form):
@@ -357,6 +361,33 @@ def program_of(folder, crate):
     return os.path.join(folder, crate, 'out', 'rlib', crate + '.rlib', 'toolchain', 'mir.json')
 
 
+def listed(path):
+    """Where each function stands in the file of a large program of which little is used."""
+    places, at, before = {}, 0, b''
+    with open(path, 'rb') as handle:
+        while piece := handle.read(PIECE):
+            text, at = before + piece, at + len(piece)
+            done, k = 0, text.find(HEAD)
+            while k >= 0:
+                name = text.rfind(b'["', 0, k) + 2
+                places.setdefault(text[name:k].decode(), []).append(at - len(text) + name - 2)
+                done, k = k + 1, text.find(HEAD, k + 1)
+            before = text[max(done, len(text) - LONGEST):]
+    return places
+
+
+def form_at(path, place):
+    with open(path, 'rb') as handle:
+        for size in [PIECE << k for k in range(64)]:
+            handle.seek(place)
+            text = handle.read(size)
+            try:
+                return json.JSONDecoder().raw_decode(text.decode('utf-8', 'ignore'))[0][1]
+            except ValueError:
+                if len(text) < size:
+                    raise
+
+
 class Shapes(dict):
     """Declared types by name; each is read when it is first asked for."""
 
@@ -375,8 +406,9 @@ class Program:
 
     def __init__(self, folder, kit=None, describe=None):
         self.folder, self.kit, self.describe = folder, kit, describe
-        self.crates, self.library = set(), set()        # crates that were read; those among them that are the toolchain's
-        self.forms, self.impls, self.declared = {}, {}, {}      # functions as they are in the file; methods of each impl; shapes of types, with parameters
+        self.crates, self.library = set(), {}           # crates that were asked for; file and functions' places of those that are the toolchain's
+        self.forms, self.generics = {}, {}              # functions as they are in the file, packed; what their parameters are for
+        self.impls, self.declared = {}, {}              # methods of each impl; shapes of types, with parameters
         self.functions, self.instances = {}, {}         # functions that were read; instance's name -> function, types, impls
         self.ready = {}                                 # functions made ready to be put in place of their calls (library.py)
         self.shapes, self.heads, self.texts = Shapes(self.read_shape), {}, {}
@@ -390,24 +422,43 @@ class Program:
         self.crates.add(name)
         path = program_of(self.folder, name)
         kit = self.kit or kit_folder()
-        if not os.path.isfile(path) and kit and os.path.isfile(os.path.join(kit, 'rlibs', name + '.rlib', 'toolchain', 'mir.json')):
-            path = os.path.join(kit, 'rlibs', name + '.rlib', 'toolchain', 'mir.json')
-            self.library.add(name)
+        of_kit = os.path.join(kit or '', 'rlibs', name + '.rlib', 'toolchain', 'mir.json')
+        if not os.path.isfile(path) and kit and os.path.isfile(of_kit):
+            self.library[name] = of_kit, listed(of_kit)
+            return
         if not os.path.isfile(path):
-            raise Stop(f'crate {name}: no proved program {path}')
-        with open(path, encoding='utf-8') as handle:
-            for function, form in json.load(handle):
-                if function in self.forms:
-                    raise Stop(f'{function}: two functions of this name')
-                self.forms[function] = form
-        if self.describe and name not in self.library:
+            more = '' if kit else ', and none of the library: rt is not on the path, and --kit was not given'
+            raise Stop(f'crate {name}: no proved program {path}{more}')
+        try:
+            with open(path, encoding='utf-8') as handle:
+                for function, form in json.load(handle):
+                    if function in self.forms:
+                        raise Stop(f'{function}: two functions of this name')
+                    self.keep(function, form)
+        except (LookupError, TypeError, ValueError, AttributeError) as error:
+            raise Stop(f'crate {name}: {path} is no proved program ({error!r})')
+        if self.describe:
             self.texts.update(self.describe(name))
 
-    def form(self, name):
+    def keep(self, name, form):
+        self.forms[name], self.generics[name] = marshal.dumps(form), form.get('generics') or {'types': [], 'bounds': []}
+
+    def is_function(self, name):
+        """Whether a crate that was asked for has it; it is kept then."""
+        crate = name.split('::')[0]
+        if name not in self.forms and crate in self.library:
+            path, places = self.library[crate]
+            if len(places.get(name, ())) > 1:
+                raise Stop(f'{name}: two functions of this name')
+            for place in places.get(name, ()):
+                self.keep(name, form_at(path, place))
+        return name in self.forms
+
+    def asked(self, name):
         self.crate(name.split('::')[0])
-        if name not in self.forms:
+        if not self.is_function(name):
             raise Stop(f'{name}: no proved function of this name')
-        return self.forms[name]
+        return name
 
     def of_library(self, name):
         """Whether a function is the toolchain's."""
@@ -417,7 +468,7 @@ class Program:
 
     def instance(self, name, types, impls):
         """The name of a function at what is given for its parameters."""
-        generics = self.form(name).get('generics') or {'types': [], 'bounds': []}
+        generics = self.generics[self.asked(name)]
         if (len(types), len(impls)) != (len(generics['types']), len(generics['bounds'])):
             raise Stop(f'statement Call of {name} with another count of types or impls')
         for impl in generics.get('impls', ()):
@@ -426,7 +477,7 @@ class Program:
 
     def named_instance(self, instances, head, key):
         name = '_'.join([head] + list(map(word, key[1])))
-        if instances.setdefault(name, key) != key or name in self.forms:
+        if name not in instances and self.is_function(name) or instances.setdefault(name, key) != key:
             raise Stop(f'{name}: two instances of this name')
         return name
 
@@ -456,7 +507,7 @@ class Program:
 
     def read(self, name):
         base, types, impls = self.instances.get(name, (name, (), ()))
-        form = self.form(base)
+        form = marshal.loads(self.forms[self.asked(base)])
         try:
             for declared in form['types']:
                 if self.declared.setdefault(declared['name'], declared['shape']) != declared['shape']:

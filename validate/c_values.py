@@ -190,9 +190,9 @@ class CValues(Run):
         if isinstance(e, c_ast.TernaryOp):
             test = simple(self.truth(state, e.cond))
             a, b = self.expression(state.under(test), e.iftrue), self.expression(state.under(negation(test)), e.iffalse)
-            if a.truth is not None and b.truth is not None:
-                return Value(self.int, truth=choice(test, a.truth, b.truth))
             a, b, t = self.usual(state, a, b)
+            if a.truth is not None and b.truth is not None:
+                return Value(t, truth=choice(test, a.truth, b.truth))
             return Value(t, choice(test, a.term, b.term))
         if isinstance(e, c_ast.CompoundLiteral):
             return self.compound(state, e)
@@ -257,8 +257,8 @@ class CValues(Run):
         if e.op == '+' and isinstance(a.t, CPointer):
             return self.moved(state, a, b)
         if a.truth is not None and b.truth is not None and e.op in ('&', '|', '^', '==', '!='):
-            x, y = a.truth, b.truth
-            return Value(self.int, truth={'&': z3.And(x, y), '|': z3.Or(x, y), '^': z3.Xor(x, y), '==': x == y, '!=': z3.Not(x == y)}[e.op])
+            x, y, t = a.truth, b.truth, self.int if e.op in ('==', '!=') else self.usual(state, a, b)[2]
+            return Value(t, truth={'&': z3.And(x, y), '|': z3.Or(x, y), '^': z3.Xor(x, y), '==': x == y, '!=': z3.Not(x == y)}[e.op])
         if e.op in ('<<', '>>'):
             return self.shifted(state, e.op, self.promoted(state, a), self.promoted(state, b))
         a, b, t = self.usual(state, a, b)

@@ -202,6 +202,35 @@ def literal(operand):
     return operand['Int']['value'] if isinstance(operand, dict) and 'Int' in operand else None
 
 
+def library_form(path, name):
+    """A function's form in a library's file, or None. The file is large: it is gone through for the function's head, and the form is read from there."""
+    head = ('[' + json.dumps(name) + ',{"lifetimes":').encode()
+    found, kept, read_so_far = [], b'', 0
+    with open(path, 'rb') as handle:
+        for part in iter(lambda: handle.read(1 << 20), b''):
+            window = kept + part
+            start = window.find(head)
+            while start >= 0:
+                found.append(read_so_far - len(kept) + start)
+                start = window.find(head, start + 1)
+            read_so_far += len(part)
+            kept = window[-(len(head) - 1):]
+        if not found:
+            return None
+        if len(found) > 1:
+            raise Refused(f'{name}: two functions of this name')
+        length = 1 << 16
+        while True:
+            handle.seek(found[0])
+            text = handle.read(length)
+            try:
+                return json.JSONDecoder().raw_decode(text.decode(errors='ignore'))[0][1]
+            except ValueError:
+                if len(text) < length:
+                    raise Refused(f'{name}: cut off in {path}')
+            length *= 4
+
+
 class Program:
     """All functions and declared types of the proved crates in a folder, and of the library's in the toolchain's folder `kit`."""
 
@@ -226,14 +255,21 @@ class Program:
                     raise Refused(f'{name}: two functions of this name')
                 self.forms[name] = form
 
-    def form(self, name):
-        """A function as it is in the file, that of a library's crate too."""
+    def has(self, name):
+        """Whether there is such a function, in a library's crate too; its form is known then."""
         crate = name.split('::')[0]
-        path = os.path.join(self.kit or '', 'rlibs', crate + '.rlib', 'toolchain', 'mir.json')
-        if crate not in self.crates and os.path.isfile(path):
-            self.read(crate, path)
-        if name not in self.forms:
-            raise Refused(f'no proved function {name}')
+        if name not in self.forms and self.kit and crate not in self.crates:
+            path = os.path.join(self.kit, 'rlibs', crate + '.rlib', 'toolchain', 'mir.json')
+            form = library_form(path, name) if os.path.isfile(path) else None
+            if form is not None:
+                self.forms[name] = form
+        return name in self.forms
+
+    def form(self, name):
+        """A function as it is in the file."""
+        if not self.has(name):
+            missing = '' if self.kit or name.split('::')[0] in self.crates else ': no rt on the path, beside which the library is (docs/USING.md, Toolchain)'
+            raise Refused(f'no proved function {name}{missing}')
         return self.forms[name]
 
     def described(self, name):
@@ -267,7 +303,7 @@ class Program:
         if not types and not dicts:
             return name
         instance = '_'.join([name] + list(map(word, types)))
-        if self.instances.setdefault(instance, (name, types, dicts)) != (name, types, dicts) or instance in self.forms:
+        if instance not in self.instances and self.has(instance) or self.instances.setdefault(instance, (name, types, dicts)) != (name, types, dicts):
             raise Refused(f'{instance}: two instances of this name')
         return instance
 

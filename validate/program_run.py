@@ -385,6 +385,8 @@ class ProgramRun(Run):
             moved = simple(x + y)
             self.counts[moved.get_id()] = moved, (y,) + self.counts.get(simple(x).get_id(), (None, ()))[1]
             return moved
+        if isinstance(x, Borrow) or isinstance(y, Borrow):
+            raise Refused('an address of a local compared')
         if name in ('Eq', 'Ne'):
             return x == y if name == 'Eq' else z3.Not(x == y)
         if z3.is_bool(x) and name in ('And', 'Or', 'Xor'):

@@ -25,6 +25,11 @@ uint64_t variants(uint64_t a, uint64_t b);
 uint64_t instances(uint8_t a, uint16_t b);
 uint64_t sums(uint64_t a, uint64_t b, uint16_t c);
 uint64_t slices(uint8_t *bytes, size_t bytes_size, size_t n);
+uint64_t other_side(uint64_t a, uint64_t b);
+uint64_t other_value(uint64_t a, uint64_t b);
+uint64_t guarded(uint64_t a, uint64_t b);
+uint64_t repoints(uint64_t a, uint64_t b);
+uint64_t called(uint64_t a, uint64_t b);
 '''
 BUILDS = (['-O0'], ['-O2'], ['-O2', '-DKAGUTIN_PLAIN_C'])
 WARN = ['-std=c99', '-fPIC', '-shared', '-Wall', '-Wextra', '-Werror', '-Wno-unused-function']
@@ -123,12 +128,47 @@ def slices(data, n):
     return first ^ other << 10 ^ (not data) << 20 ^ (9 if n < len(data) else 500) << 30
 
 
+def other_side(a, b):
+    return a ^ b if a < 3 and b < 4 and a != b else 9
+
+
+def other_value(a, b):
+    p, q = (a & 3, b & 1), (b & 3, a & 1)
+    if not (p[0] == 1 if b < 3 else p[1] == 1):
+        return 7
+    return a & 255 | 512 | 256 if p == q else (a & 255) ^ 1024
+
+
+def guarded(a, b):
+    return 3 if a in (1, 60) and b < 3 or a == 2 and b > 4 else 8
+
+
+def repoints(a, b):
+    return (a ^ ((77 ^ 78) if b < 4 else a ^ 3) << 8) & ALL
+
+
+def called(a, b):
+    x, y, table, third = a & 15, a >> 2, bytearray(512), 0
+    first = 77 if x < 3 and b < 4 else y
+    table[b & 511] = x
+    table[y & 511] = b & 255
+    second = table[x] ^ table[5] << 8
+    for k in range(4):
+        if not third and not b >> k & 1:
+            if x == 5 + k:
+                third = k + 1
+            else:
+                y ^= 100 + k
+    return (first ^ second << 8 ^ (third or x) << 24 ^ y << 32) & ALL
+
+
 NUMBERS = [*range(80), 1 << 32, 1 << 63, ALL]
 CASES = [(branch, [(n,) for n in NUMBERS]), (branches, [(n,) for n in NUMBERS]), (marks, [(n,) for n in NUMBERS]), (copies, [(x, n) for x in (0, 1, 2) for n in NUMBERS])]
 PAIRS = [(a, b) for a in (*range(12), 60, 255, 1 << 40, ALL - 1, ALL) for b in (*range(12), 60, 61, 600, 1 << 63, ALL)]
-CASES += [(f, PAIRS) for f in (refused, found, variants)]
+CASES += [(f, PAIRS) for f in (refused, found, variants, other_side, other_value, guarded, repoints, called)]
 CASES += [(instances, [(a, b) for a in (0, 1, 7, 255) for b in (0, 2, 3, 4, 9, 65535)]), (sums, [(a, b, c) for a, b in PAIRS for c in (0, 4, 8, 40008, 65535)])]
 SLICES = [(data, n) for data in (b'', b'\x07', bytes(range(200, 209))) for n in (0, 1, 8, 9, 1 << 40)]
+KEPT = ('early', 'tabled', 'doubled')       # functions that are not put in place of their calls
 CONSTANTS = {'minus': ALL, 'bit': 1 << 40, 'inverse': ALL - 1}
 
 
@@ -138,7 +178,7 @@ def run(*command, **words):
         sys.exit(f'translated.py: {" ".join(command)}:\n{done.stdout}{done.stderr}')
 
 
-def called(library, name, args):
+def result_of(library, name, args):
     function = getattr(library, name)
     function.restype = ctypes.c_uint64
     return function(*map(ctypes.c_uint64, args))
@@ -148,7 +188,7 @@ def check(library, how):
     """How many calls give what they shall; the first that does not ends the test."""
     calls = [(f.__name__, args, f(*args)) for f, many in CASES for args in many] + [(name, (), want) for name, want in CONSTANTS.items()]
     for name, args, want in calls:
-        got = called(library, name, args)
+        got = result_of(library, name, args)
         if got != want:
             sys.exit(f'translated.py: FAILED: {name}{args} is {got}, not {want} ({" ".join(how)})')
     for data, n in SLICES:
@@ -173,6 +213,11 @@ def main():
             out = os.path.join(folder, 'translated.c')
             run(sys.executable, 'port/generate.py', '--rlib', f'{folder}/crates', '--source', f'{folder}/crates', '--export', 'translated',
                 '--header', 'translated.h', '--out', out, *passes)
+            with open(out, encoding='utf-8') as handle:
+                text = handle.read()
+            gone = [name for name in KEPT if f'translated__{name}(' not in text]
+            if gone:
+                sys.exit(f'translated.py: FAILED: put in place of their calls: {gone}')
             for k, words in enumerate(BUILDS):
                 library = os.path.join(folder, f'translated{len(passes)}{k}.so')
                 run('cc', *WARN, *words, '-I' + folder, out, '-o', library)

@@ -22,7 +22,7 @@ import time
 
 from subjects import ROOT, TARGETS, Failed, build, generate, machine_code, refusal, refusals, refused_somewhere, same_behaviour, text_of, write
 
-from enums import write_enums  # noqa: E402
+from enums import same_address, write_enums  # noqa: E402
 from equivalent import EQUIVALENT  # noqa: E402
 from faults import FAULTS  # noqa: E402
 from files import Words  # noqa: E402
@@ -191,16 +191,30 @@ def fault(k):
     raise Failed(f'a fault that is not refused: {file}: {old}')
 
 
+def address(op, answer):
+    """A local's address compared with itself, where the program holds the local as a value: refused, whatever C answers."""
+    name, body = 'random__same', 'static inline bool random__same(uint64_t x)\n{\n    (void)x;\n    return ' + answer + ';\n}\n\n'
+    with tempfile.TemporaryDirectory() as folder:
+        words, path = write_enums(folder, 1, ['random::same', same_address(op)]), f'{folder}/random.c'
+        generate(os.path.join(ROOT, 'port'), words, path)
+        write(path, text_of(path).replace('uint64_t call_0(', body + 'uint64_t call_0(', 1))
+        if name not in refusals(Program(f'{folder}/crates'), words, path, folder, TARGETS[0], [name]):
+            raise Failed(f'two addresses of a local, {op}, C answers {answer}: accepted')
+    return only('random.c', f'{op} of a local\'s address with itself, C answers {answer}', 'refused')
+
+
 # ---- all of them
 
 KINDS = {'random': (random_program, 'random programs with wrong edits'), 'enums': (enum_program, 'such programs with enums and instances'),
-         'dist': (dist_edits, 'times ten wrong edits of dist/'), 'trick': (trick, 'tricks in dist/'), 'joined': (joined_edit, 'wrong edits of the joined file'), 'fault': (fault, 'faults in port/')}
+         'address': (address, 'comparisons of addresses'), 'dist': (dist_edits, 'times ten wrong edits of dist/'), 'trick': (trick, 'tricks in dist/'),
+         'joined': (joined_edit, 'wrong edits of the joined file'), 'fault': (fault, 'faults in port/')}
 
 
 def tasks(quick, fresh):
     """(kind, arguments). The gate has fixed ones; the long form has more, and random programs of a new seed."""
     seeds, mutants = ([1, 2, 3], 8) if quick else ([932512, *range(1, 13), *range(fresh, fresh + 8)], 15)
     return [(kind, [seed, mutants]) for kind in WRITERS for seed in seeds] + [('dist', [k]) for k in range(3 if quick else 30)] \
+        + [('address', [op, answer]) for op in ('Eq', 'Ne') for answer in ('false', 'true')] \
         + [('trick', [k]) for k in range(len(TRICKS))] + [('joined', [k]) for k in range(len(JOINED))] \
         + [('fault', [k]) for k in range(0, len(FAULTS), 6 if quick else 1)]
 

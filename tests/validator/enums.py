@@ -244,13 +244,24 @@ def exported(rng):
             x, y = w.binary('WrapAdd', x, w.binary({'Shr': 'Unsigned'}, y, number(7))), x
     x = w.binary('Xor', x, copy(w.run('random::compared', [y, x])))
     x = w.binary('WrapAdd', x, copy(w.run('random::condition', [x, y])))
+    for size in SIZES:
+        x = w.binary('Xor', x, copy(w.run('random::sized', [y], U64, [{'Const': size}])))
     w.give(w.binary('Xor', x, w.binary('WrapMul', y, number(3))))
     return w.form()
 
 
-def write_enums(folder, seed):
-    """A crate as write_program has it."""
+def same_address(op):
+    """Whether two addresses of one local are equal, or differ. No other function calls it."""
+    w = EnumWriter(random.Random(1), 'Bool', [U64])
+    held_, one, other = w.local(REFUSAL, 'MemorySlot'), *(w.local({'Ref': ['Erased', 'Imm', REFUSAL]}) for _ in range(2))
+    w.out += [('Assign', place(held_), {'Aggregate': [number(0, 8)]}), *(('Assign', place(p), {'AddrOf': place(held_)}) for p in (one, other))]
+    w.give(w.binary(op, copy(one), copy(other), 'Bool'))
+    return w.form()
+
+
+def write_enums(folder, seed, *more):
+    """A crate as write_program has it, and these functions."""
     rng = random.Random(seed)
     functions = (asked, passed_on, answered, number_of, make_item, held, equal, compared, condition, sized, bounded, first_of)
     forms = [[f'random::{of.__name__}', of(rng)] for of in functions]
-    return write_crate(folder, forms + [[f'random::call_{k}', exported(rng)] for k in range(EXPORTED)])
+    return write_crate(folder, forms + [[f'random::call_{k}', exported(rng)] for k in range(EXPORTED)] + list(more))

@@ -16,4 +16,6 @@ EQUIVALENT = {
     ('log_replay__restore__restore_word', 'log_replay__places__restore_block(log, area, groups, start, slot, (uint64_t)table.ptr[(size_t)t10] - 1u, base + t10);  ->  '
      't9 = t9 & (t9 - 1u);'):
         'the two statements in the other order: which home is restored was found before, and clearing its bit touches nothing of it',
+    ('base_state__writers__writer', 't3 = 128u + (24u * w);  ->  t4 = (uint64_t)s.ptr[(size_t)(104u + w)];'):
+        'the two statements in the other order: neither reads what the other writes',
 }

@@ -60,6 +60,8 @@ TRICKS = [
     (HOURS, '    return t4;\n}\n\n/* The number that the `k`', '    return t4;\n    abort_all();\n}\n\n/* The number that the `k`', 'a call of nothing behind a return'),
     # arithmetic
     (INFLOW, '(high_before < low_before)', '((int16_t)high_before < (int16_t)low_before)', 'a conversion that C leaves to the compiler'),
+    (INFLOW, '(area < 1u)', '(!((area < 5u ? (uint64_t)(area < 1u) : (uint64_t)(area < 1u)) - 1 < 0))', 'a test kept as 64 bits, less one: never below 0'),
+    (INFLOW, '(area < 1u)', '(!(((uint64_t)(area < 1u) & (uint64_t)(area < 1u)) - 1 < 0))', 'the same of two tests at once'),
     (INFLOW, '-(int64_t)~x - 1', '-(int64_t)(~x + 1u)', 'overflow at the least number'),
 ]
 

@@ -27,9 +27,9 @@ module _ (text : List ℕ) (stop i : ℕ) where
 
 -- ---- decimal numbers
 
-pub decimal-none : (text : List ℕ) → length text ≡ 0 → 65535 < decimal text
+pub decimal-none : (text : List ℕ) → length text ≡ 0 → decimal text ≡ 65536
 unfolding decimal
-decimal-none [] h = omega arith
+decimal-none [] h = refl
 decimal-none (b ∷ bs) h = absurd (omega arith)
 
 pub decimal-begins : (text : List ℕ) → (length text ≡ 0 → ⊥) → decimal_from 0 text ≡ decimal text
@@ -38,14 +38,14 @@ decimal-begins [] h = absurd (h refl)
 decimal-begins (b ∷ bs) h = refl
 
 module _ (text : List ℕ) (i v : ℕ) (h : i < length text) where
-  pub decimal-stops : 10 ≡ digit_of (get_or text i 0) → 65535 < decimal_from v (drop i text)
+  pub decimal-stops : 10 ≡ digit_of (get_or text i 0) → decimal_from v (drop i text) ≡ 65536
   unfolding decimal_from
-  decimal-stops e = rw (drop-cons text i 0 h, ← e) (omega arith)
+  decimal-stops e = rw (drop-cons text i 0 h, ← e)
 
   module _ (d : ℕ) (e : d ≡ digit_of (get_or text i 0)) (l : d ≤ 9) where
-    pub decimal-ends : 65535 < 10 * v + d → 65535 < decimal_from v (drop i text)
+    pub decimal-ends : 65535 < 10 * v + d → decimal_from v (drop i text) ≡ 65536
     unfolding decimal_from
-    decimal-ends m = rw (drop-cons text i 0 h, ← e, le-leb d 9 l, lt-leb (10 * v + d) 65535 m) (omega arith)
+    decimal-ends m = rw (drop-cons text i 0 h, ← e, le-leb d 9 l, lt-leb (10 * v + d) 65535 m)
 
     pub decimal-on : 10 * v + d ≤ 65535 → decimal_from v (drop i text) ≡ decimal_from (10 * v + d) (drop (i + 1) text)
     unfolding decimal_from

@@ -1,5 +1,5 @@
 // Lines, fields and decimal numbers in the script's text.
-ghost use Rattle.std.specs.Prelude.{◌≡◌, ◌+◌, ◌<◌, ◌≤◌, length, drop, unwrap_or, IfSome, IsNone};
+ghost use Rattle.std.specs.Prelude.{◌≡◌, ◌+◌, ◌≤◌, length, drop, unwrap_or, IfSome, IsNone};
 ghost use Rattle.prog_lines.specs.Text.{index_of, digit_of, decimal};
 
 // The index of the first `stop` from `from` on, or the text's length.
@@ -29,7 +29,7 @@ fn digit(b: u8) -> Option<u64>
 
 // The number up to 65,535 that the bytes spell in decimal, leading zeros or not.
 pub fn number(text: &[u8]) -> Option<u64>
-    ensures none { IsNone result → 65535 < decimal text.now }
+    ensures none { IsNone result → decimal text.now ≡ 65536 }
     ensures value { IfSome result (λ n. (n ≡ decimal text.now) × (n ≤ 65535)) }
 {
     if text.is_empty() {
