@@ -6,9 +6,10 @@ from c_types import c_name
 from c_values import Values, bare
 from fold import read_locals
 from forms import (BOOL, U64, U8, UNIT, Array, Assign, Binary, Block, Call, Choice, Copy, Exit, If, Int, IntType, Loop, Named, Place, Ref,
-                   Repeat, Return, Slice, Stop, Store, Switch, Unary, derefs, has_large_table)
+                   Repeat, Return, Slice, Stop, Store, Switch, Unary, derefs)
 
 WIDTH = 130         # columns of a line
+LARGE = 512         # bytes of a table that is kept out of the frames of callers
 
 
 def is_copying(body):
@@ -223,7 +224,7 @@ class FunctionText(Values):
         self.out += code + ['}', '']
 
     def kind(self, f):
-        if has_large_table(f):
+        if any(isinstance(t, Array) and isinstance(t.item, IntType) and t.count * t.item.width // 8 >= LARGE for t in f.types):
             self.helpers.add('APART')
             return 'static APART '
         return 'static inline '

@@ -6,8 +6,6 @@ are no forms of the prover; the pass in words.py puts them where the bytes of a 
 """
 from dataclasses import dataclass, replace
 
-LARGE = 512         # bytes of a large table
-
 
 class Stop(Exception):
     """A form that the generator does not know. Nothing is written then."""
@@ -392,8 +390,3 @@ def locals_read(value):
 
 def derefs(steps):
     return any(isinstance(step, Deref) for step in steps)
-
-
-def has_large_table(function):
-    """Whether it has a table that is kept out of the frames of its callers."""
-    return any(isinstance(t, Array) and isinstance(t.item, IntType) and t.count * t.item.width // 8 >= LARGE for t in function.types)

@@ -8,38 +8,43 @@ from dataclasses import replace
 
 from fold import fold, mentions, simplify, sweep
 from forms import (BOOL, U64, U8, Address, Aggregate, Array, Assign, Binary, Block, Bool, Call, Cast, Choice, Copy, Deref, Exit, Field, Fields, If, Int, IntType,
-                   Loop, Named, Place, Ref, Return, Slice, Stop, Switch, Unary, Unit, Variant, bodies_of, derefs, has_large_table, inside, locals_read,
-                   places_in, statements, target_of, values_of, with_bodies, with_operands, with_values)
+                   Loop, Named, Place, Ref, Return, Slice, Stop, Switch, Unary, Unit, Variant, bodies_of, derefs, inside, locals_read, places_in,
+                   statements, target_of, values_of, with_bodies, with_operands, with_values)
 from inline import renamed_body
 from pointers import infer_pointers
 
 TAG = (Variant(0), Field(0))
 ROUNDS = 12         # of following what is known
-TWICE = 12          # statements that may come to stand in two branches
+TWICE = 12          # statements that may come to stand in two branches, or in place of each call of a function of the program's own
 
 
-def is_put(program, function):
-    """Whether all calls of a function are replaced: one of the library's, or one that gets a reference to a struct, an enum or a boolean and fits, and
-    an instance that gets one to anything but an array."""
-    if any(isinstance(s, Loop) for s in statements(function.body)):
-        return False
-    if program.of_library(function.name):
-        return True
+def put_size(program, name):
+    """How many statements stand for a call of the function, or None if it stays one. Put in place are the library's functions, instances that get a
+    reference to anything but an array, and short ones that get one to a struct, an enum or a boolean. What is decided is the same for all calls."""
+    if name not in program.put:
+        program.put[name] = None                # what calls itself stays a call, and stops the generator later
+        program.put[name] = measured(program, program.function(name))
+    return program.put[name]
+
+
+def measured(program, function):
     lent, is_instance = [t for t in function.types[1:function.params + 1] if isinstance(t, Ref)], function.name in program.instances
-    if is_instance:
-        return any(not isinstance(t.target, Array) for t in lent)
-    return any(not isinstance(t.target, (Array, IntType)) for t in lent) and fits(function)
-
-
-def fits(function):
-    """Whether a function of the program's own may stand in place of its calls: without a large table, which only its own calls should have on the
-    stack, nor a `return` that leaves a block or would have much written twice."""
-    if has_large_table(function):
-        return False
+    is_own = not program.of_library(function.name) and not is_instance
+    if not program.of_library(function.name) and not any(
+            not isinstance(t.target, Array) and (is_instance or not isinstance(t.target, IntType)) for t in lent):
+        return None
+    function = program.read(function.name)      # as it is in the file, whatever became of it
+    if any(isinstance(s, Loop) for s in statements(function.body)):
+        return None
+    if not is_own:
+        return 1
+    if any(isinstance(t, Array) for t in function.types):       # which only its own calls should have on the stack
+        return None
     try:
-        return straight_size(function.body, 0) <= size(function.body) + TWICE
+        total = straight_size(program, function.body, 0)
     except Stop:
-        return False
+        return None
+    return total if total <= TWICE else None
 
 
 def put_in_place(program, function):
@@ -61,10 +66,9 @@ def with_calls_put(program, function, around):
     def treat(body):
         out = []
         for statement in body:
-            callee = program.function(statement.name) if isinstance(statement, Call) else None
-            if callee and is_put(program, callee):
-                found.append(callee)
-                out += in_place(program, function, callee, statement, around)
+            if isinstance(statement, Call) and put_size(program, statement.name) is not None:
+                found.append(statement.name)
+                out += in_place(program, function, statement, around)
             else:
                 out.append(with_bodies(statement, treat))
         return tuple(out)
@@ -72,9 +76,9 @@ def with_calls_put(program, function, around):
     return found
 
 
-def in_place(program, caller, callee, call, around):
+def in_place(program, caller, call, around):
     """The statements that stand for a call: parameters set, the body, the result."""
-    callee = made_ready(program, callee.name, around)
+    callee = made_ready(program, call.name, around)
     new = {i: caller.add_local(t) for i, t in enumerate(callee.types)}
     caller.in_memory |= {new[i] for i in callee.in_memory}
     out = [Assign(Place(new[i]), arg) for i, arg in zip(callee.parameters(), call.args)]
@@ -116,19 +120,19 @@ def straight(body):
     return body
 
 
-def straight_size(body, behind):
-    """How many statements `straight` makes of a body with so many behind it."""
+def straight_size(program, body, behind):
+    """How many statements `straight` makes of a body with so many behind it, calls in it put in place."""
     total = 0
     for i, statement in enumerate(body):
         if isinstance(statement, Return):
             return total
         if not any(isinstance(s, Return) for s in statements((statement,))):
-            total += size((statement,))
+            total += sum(isinstance(s, Call) and put_size(program, s.name) or 1 for s in statements((statement,)))
         elif isinstance(statement, (If, Switch)):
-            rest = straight_size(body[i + 1:], behind)
-            return total + 1 + sum(straight_size(b, rest) for b in bodies_of(statement))
+            rest = straight_size(program, body[i + 1:], behind)
+            return total + 1 + sum(straight_size(program, b, rest) for b in bodies_of(statement))
         elif isinstance(statement, Block) and not has_exit(statement.body):
-            return total + straight_size(statement.body + body[i + 1:], behind)
+            return total + straight_size(program, statement.body + body[i + 1:], behind)
         else:
             raise Stop('a return that leaves a block, in a function that is put in place of its calls')
     return total + behind

@@ -407,10 +407,10 @@ class Program:
     def __init__(self, folder, kit=None, describe=None):
         self.folder, self.kit, self.describe = folder, kit, describe
         self.crates, self.library = set(), {}           # crates that were asked for; file and functions' places of those that are the toolchain's
-        self.forms, self.generics = {}, {}              # functions as they are in the file, packed; what their parameters are for
+        self.forms, self.generics = {}, {}              # functions as they are in the file, packed; their parameters for types, numbers and impls
         self.impls, self.declared = {}, {}              # methods of each impl; shapes of types, with parameters
         self.functions, self.instances = {}, {}         # functions that were read; instance's name -> function, types, impls
-        self.ready = {}                                 # functions made ready to be put in place of their calls (library.py)
+        self.ready, self.put = {}, {}                   # functions made ready to be put in place of their calls, and which are (library.py)
         self.shapes, self.heads, self.texts = Shapes(self.read_shape), {}, {}
 
     # ---- crates

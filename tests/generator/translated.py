@@ -30,6 +30,7 @@ uint64_t other_value(uint64_t a, uint64_t b);
 uint64_t guarded(uint64_t a, uint64_t b);
 uint64_t repoints(uint64_t a, uint64_t b);
 uint64_t called(uint64_t a, uint64_t b);
+uint64_t called_again(uint64_t a, uint64_t b);
 '''
 BUILDS = (['-O0'], ['-O2'], ['-O2', '-DKAGUTIN_PLAIN_C'])
 WARN = ['-std=c99', '-fPIC', '-shared', '-Wall', '-Wextra', '-Werror', '-Wno-unused-function']
@@ -162,13 +163,20 @@ def called(a, b):
     return (first ^ second << 8 ^ (third or x) << 24 ^ y << 32) & ALL
 
 
+def called_again(a, b):
+    def twice(k, n):
+        return b ^ n & 7 if k == 1 else twice(k - 1, n) ^ twice(k - 1, n >> k - 1) << k - 1
+    return ((77 if b < 3 and a < 4 else a & 255) ^ twice(6, a) << 8) & ALL
+
+
 NUMBERS = [*range(80), 1 << 32, 1 << 63, ALL]
 CASES = [(branch, [(n,) for n in NUMBERS]), (branches, [(n,) for n in NUMBERS]), (marks, [(n,) for n in NUMBERS]), (copies, [(x, n) for x in (0, 1, 2) for n in NUMBERS])]
 PAIRS = [(a, b) for a in (*range(12), 60, 255, 1 << 40, ALL - 1, ALL) for b in (*range(12), 60, 61, 600, 1 << 63, ALL)]
-CASES += [(f, PAIRS) for f in (refused, found, variants, other_side, other_value, guarded, repoints, called)]
+CASES += [(f, PAIRS) for f in (refused, found, variants, other_side, other_value, guarded, repoints, called, called_again)]
 CASES += [(instances, [(a, b) for a in (0, 1, 7, 255) for b in (0, 2, 3, 4, 9, 65535)]), (sums, [(a, b, c) for a, b in PAIRS for c in (0, 4, 8, 40008, 65535)])]
 SLICES = [(data, n) for data in (b'', b'\x07', bytes(range(200, 209))) for n in (0, 1, 8, 9, 1 << 40)]
 KEPT = ('early', 'tabled', 'doubled')       # functions that are not put in place of their calls
+MOST = 25000                                # bytes of C: what is put in place is not written again and again
 CONSTANTS = {'minus': ALL, 'bit': 1 << 40, 'inverse': ALL - 1}
 
 
@@ -216,8 +224,8 @@ def main():
             with open(out, encoding='utf-8') as handle:
                 text = handle.read()
             gone = [name for name in KEPT if f'translated__{name}(' not in text]
-            if gone:
-                sys.exit(f'translated.py: FAILED: put in place of their calls: {gone}')
+            if gone or not passes and len(text) > MOST:
+                sys.exit(f'translated.py: FAILED: put in place of their calls: {gone}, {len(text)} bytes of C')
             for k, words in enumerate(BUILDS):
                 library = os.path.join(folder, f'translated{len(passes)}{k}.so')
                 run('cc', *WARN, *words, '-I' + folder, out, '-o', library)
