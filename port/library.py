@@ -114,7 +114,7 @@ def straight(body):
             continue
         if isinstance(statement, (If, Switch)):
             return body[:i] + (with_bodies(statement, lambda b: straight(b + rest)),)
-        if isinstance(statement, Block) and not has_exit(statement.body):
+        if isinstance(statement, Block) and not leaves(statement.body):
             return straight(body[:i] + statement.body + rest)
         raise Stop('a return that leaves a block, in a function that is put in place of its calls')
     return body
@@ -131,11 +131,16 @@ def straight_size(program, body, behind):
         elif isinstance(statement, (If, Switch)):
             rest = straight_size(program, body[i + 1:], behind)
             return total + 1 + sum(straight_size(program, b, rest) for b in bodies_of(statement))
-        elif isinstance(statement, Block) and not has_exit(statement.body):
+        elif isinstance(statement, Block) and not leaves(statement.body):
             return total + straight_size(program, statement.body + body[i + 1:], behind)
         else:
             raise Stop('a return that leaves a block, in a function that is put in place of its calls')
     return total + behind
+
+
+def leaves(body, depth=0):
+    """Whether an `exit` in a block's body leaves the block, or one around it."""
+    return any(isinstance(s, Exit) and s.depth >= depth or any(leaves(b, depth + isinstance(s, (Block, Loop))) for b in bodies_of(s)) for s in body)
 
 
 def has_exit(body):

@@ -31,6 +31,7 @@ uint64_t guarded(uint64_t a, uint64_t b);
 uint64_t repoints(uint64_t a, uint64_t b);
 uint64_t called(uint64_t a, uint64_t b);
 uint64_t called_again(uint64_t a, uint64_t b);
+uint64_t inner_blocks(uint64_t a, uint64_t b);
 '''
 BUILDS = (['-O0'], ['-O2'], ['-O2', '-DKAGUTIN_PLAIN_C'])
 WARN = ['-std=c99', '-fPIC', '-shared', '-Wall', '-Wextra', '-Werror', '-Wno-unused-function']
@@ -169,10 +170,15 @@ def called_again(a, b):
     return ((77 if b < 3 and a < 4 else a & 255) ^ twice(6, a) << 8) & ALL
 
 
+def inner_blocks(a, b):
+    left = [a < b, b < 4]
+    return ([2, 1][left[0]] ^ [2, 1][left[1]] << 4 ^ (a if all(left) else 3) << 8) & ALL
+
+
 NUMBERS = [*range(80), 1 << 32, 1 << 63, ALL]
 CASES = [(branch, [(n,) for n in NUMBERS]), (branches, [(n,) for n in NUMBERS]), (marks, [(n,) for n in NUMBERS]), (copies, [(x, n) for x in (0, 1, 2) for n in NUMBERS])]
 PAIRS = [(a, b) for a in (*range(12), 60, 255, 1 << 40, ALL - 1, ALL) for b in (*range(12), 60, 61, 600, 1 << 63, ALL)]
-CASES += [(f, PAIRS) for f in (refused, found, variants, other_side, other_value, guarded, repoints, called, called_again)]
+CASES += [(f, PAIRS) for f in (refused, found, variants, other_side, other_value, guarded, repoints, called, called_again, inner_blocks)]
 CASES += [(instances, [(a, b) for a in (0, 1, 7, 255) for b in (0, 2, 3, 4, 9, 65535)]), (sums, [(a, b, c) for a, b in PAIRS for c in (0, 4, 8, 40008, 65535)])]
 SLICES = [(data, n) for data in (b'', b'\x07', bytes(range(200, 209))) for n in (0, 1, 8, 9, 1 << 40)]
 KEPT = ('early', 'tabled', 'doubled')       # functions that are not put in place of their calls
