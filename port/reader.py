@@ -351,9 +351,16 @@ def holds_pointer(t, shapes):
 
 
 def kit_folder():
-    """The folder of the toolchain, which has the library's proved programs: that of the prover's command, rt."""
+    """The folder of the toolchain, which has the library's proved programs: that of the prover's command, rt, or where that is not on the path, the one
+    that `make test` noted."""
     rt = shutil.which('rt')
-    return os.path.dirname(os.path.dirname(os.path.realpath(rt))) if rt else None
+    if rt:
+        return os.path.dirname(os.path.dirname(os.path.realpath(rt)))
+    noted = os.path.join(os.path.dirname(os.path.dirname(os.path.abspath(__file__))), 'target', 'test', 'kit')
+    if not os.path.isfile(noted):
+        return None
+    with open(noted, encoding='utf-8') as handle:
+        return handle.read().strip()
 
 
 def program_of(folder, crate):

@@ -202,6 +202,18 @@ def literal(operand):
     return operand['Int']['value'] if isinstance(operand, dict) and 'Int' in operand else None
 
 
+def toolchain():
+    """The folder that the command rt lies in the bin/ of; without it on the path, what scripts/proofs.sh wrote down, or None."""
+    rt = shutil.which('rt')
+    if rt is not None:
+        return os.path.dirname(os.path.dirname(os.path.realpath(rt)))
+    try:
+        with open(os.path.join(os.path.dirname(os.path.dirname(os.path.abspath(__file__))), 'target', 'test', 'kit'), encoding='utf-8') as handle:
+            return handle.readline().strip()
+    except OSError:
+        return None
+
+
 def library_form(path, name):
     """A function's form in a library's file, or None. The file is large: it is gone through for the function's head, and the form is read from there."""
     head = ('[' + json.dumps(name) + ',{"lifetimes":').encode()
@@ -235,8 +247,7 @@ class Program:
     """All functions and declared types of the proved crates in a folder, and of the library's in the toolchain's folder `kit`."""
 
     def __init__(self, folder, kit=None):
-        rt = shutil.which('rt')
-        self.kit = kit or rt and os.path.dirname(os.path.dirname(os.path.realpath(rt)))
+        self.kit = kit or toolchain()
         self.forms, self.functions, self.declared, self.impls, self.instances, self.crates = {}, {}, {}, {}, {}, set()
         crates = sorted(os.listdir(folder)) if os.path.isdir(folder) else []
         paths = {crate: os.path.join(folder, crate, 'out', 'rlib', crate + '.rlib', 'toolchain', 'mir.json') for crate in crates}
