@@ -357,10 +357,12 @@ def kit_folder():
     if rt:
         return os.path.dirname(os.path.dirname(os.path.realpath(rt)))
     noted = os.path.join(os.path.dirname(os.path.dirname(os.path.abspath(__file__))), 'target', 'test', 'kit')
-    if not os.path.isfile(noted):
+    try:
+        with open(noted, encoding='utf-8') as handle:
+            kit = handle.read().strip()
+    except (OSError, ValueError):
         return None
-    with open(noted, encoding='utf-8') as handle:
-        return handle.read().strip()
+    return kit if os.path.isdir(os.path.join(kit, 'rlibs')) else None
 
 
 def program_of(folder, crate):

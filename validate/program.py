@@ -209,9 +209,10 @@ def toolchain():
         return os.path.dirname(os.path.dirname(os.path.realpath(rt)))
     try:
         with open(os.path.join(os.path.dirname(os.path.dirname(os.path.abspath(__file__))), 'target', 'test', 'kit'), encoding='utf-8') as handle:
-            return handle.readline().strip()
-    except OSError:
+            folder = handle.readline().strip()
+    except (OSError, UnicodeDecodeError):
         return None
+    return folder if os.path.isdir(f'{folder}/rlibs') else None
 
 
 def library_form(path, name):
