@@ -1,7 +1,7 @@
 # The files of dist/ proved equal to the proved program, function by function and for all inputs: validate/README.md. Included by the Makefile.
 #
 # validate        every file, both preprocessor forms, all widths and byte orders; SOLVER=cvc5 asks cvc5 instead of z3
-# validate-check  tests of the validator: wrong C and a wrong generator must be refused; some ten minutes of one processor, and it goes on where
+# validate-check  tests of the validator: wrong C and a wrong generator must be refused; some twenty minutes of one processor, and it goes on where
 #                 it was stopped (target/validate-check.done). validate-quick-check is the gate's part of it, a minute and a half of one. Each leaves a
 #                 row for each wrong edit in target/, as JSON
 
